@@ -1,0 +1,16 @@
+pub mod Logic
+pub mod Formulas
+pub mod Solution
+pub mod Models
+pub mod Ranges
+pub mod Reach
+pub mod Words
+pub mod Order
+pub mod Members
+pub mod Sets
+pub mod FixedPoints
+pub mod Systems
+pub mod Iteration
+pub mod Monotone
+pub mod InRange
+pub mod Looser

@@ -1,0 +1,103 @@
+-- A set with one bit turned over, as `put` does it: digit m of `w xor 2 ^ k` is that of w, but turned over where m is k.
+-- One law of a number's digits under xor gives both, with no induction.
+use mathlib.Core.Path.{_≡_, refl, sym, ap, _∙_, subst, fun-ext}
+use mathlib.Core.Bool.{Bool, true, false, not, Bool·beq}
+use mathlib.Core.List.{List}
+use Prim.Native.Nat.{ℕ, zero, suc, _+_, _-_, _*_, _/_, _%_, _^_, _<_}
+use native.Mathlib.Nat.{mod-lt, div-eq-of-lt, one-mul}
+use native.Mathlib.Decide.{ℕ-discrete, decLt}
+use native.Mathlib.Omega.{arith}
+use lib.Dec.{eqb, T}
+use lib.Bits.{bitXor, xor-shr, xor-mod, xor-zero-r, shifted-even}
+use lib.Pow.{pow-pos, pow-lt, pow-add, shl-shr}
+use lib.ListN.{length, getD, set}
+use lib.Seq.{getD-set-same, getD-set-other}
+use borrow.Author.Tests.{eq-eqb, ne-eqb}
+use Rattle.truth.specs.Bits.{digit, bit-of, updated}
+
+-- ---- digits under xor
+digit-xor : (a b m : ℕ) → digit (bitXor a b) m ≡ bitXor (digit a m) (digit b m)
+digit-xor a b m = ap (λ (x : ℕ). x % 2) (xor-shr a b m) ∙ xor-mod (a / 2 ^ m) (b / 2 ^ m) 1
+
+digit-pow-same : (k : ℕ) → digit (2 ^ k) k ≡ 1
+digit-pow-same k = ap (λ (x : ℕ). x / 2 ^ k % 2) (sym (one-mul (2 ^ k))) ∙ ap (λ (x : ℕ). x % 2) (shl-shr 1 k)
+
+pow-below : (m d : ℕ) → digit (2 ^ (suc d + m)) m ≡ 0
+pow-below m d =
+    ap (λ (x : ℕ). x / 2 ^ m % 2) (pow-add 2 (suc d) m) ∙ ap (λ (x : ℕ). x % 2) (shl-shr (2 ^ suc d) m)
+    ∙ ap (λ (x : ℕ). x % 2) (sym (one-mul (2 ^ suc d))) ∙ shifted-even 1 d
+
+digit-pow-other : (k m : ℕ) → (m ≡ k → ⊥) → digit (2 ^ k) m ≡ 0
+digit-pow-other k m ne =
+    elim (decLt m k) [
+      | yes l ↦ let e : suc (k - suc m) + m ≡ k = omega arith in
+          ap (λ (x : ℕ). digit (2 ^ x) m) (sym e) ∙ pow-below m (k - suc m)
+      | no n ↦ let l : k < m = omega arith in ap (λ (x : ℕ). x % 2) (div-eq-of-lt (pow-lt l))
+    ]
+
+flip-bit : (d : ℕ) → d < 2 → eqb (bitXor d 1) 1 ≡ not (eqb d 1)
+flip-bit zero h = refl
+flip-bit (suc zero) h = refl
+flip-bit (suc (suc d)) h = absurd (omega arith)
+
+flip-same : (w k : ℕ) → eqb (digit (bitXor w (2 ^ k)) k) 1 ≡ not (eqb (digit w k) 1)
+flip-same w k =
+    ap (λ (x : ℕ). eqb x 1) (digit-xor w (2 ^ k) k ∙ ap (bitXor (digit w k)) (digit-pow-same k))
+    ∙ flip-bit (digit w k) (mod-lt (w / 2 ^ k) (pow-pos 1))
+
+flip-other : (w k m : ℕ) → (m ≡ k → ⊥) → digit (bitXor w (2 ^ k)) m ≡ digit w m
+flip-other w k m ne = digit-xor w (2 ^ k) m ∙ ap (bitXor (digit w m)) (digit-pow-other k m ne) ∙ xor-zero-r (digit w m)
+
+-- ---- a set with one bit turned over
+abbrev turned : List ℕ → ℕ → ℕ
+turned ws j = bitXor (getD ws (j / 64) 0) (2 ^ (j % 64))
+
+abbrev pub flipped : List ℕ → ℕ → List ℕ
+flipped ws j = set ws (j / 64) (turned ws j)
+
+flipped-same : (ws : List ℕ) (j : ℕ) → j / 64 < length ws → bit-of (flipped ws j) j ≡ not (bit-of ws j)
+unfolding bit-of
+flipped-same ws j h = rw (getD-set-same ws (j / 64) (turned ws j) 0 h) (flip-same (getD ws (j / 64) 0) (j % 64))
+
+flipped-other : (ws : List ℕ) (j k : ℕ) → j / 64 < length ws → (k ≡ j → ⊥) → bit-of (flipped ws j) k ≡ bit-of ws k
+unfolding bit-of
+flipped-other ws j k h ne =
+    elim (ℕ-discrete (k / 64) (j / 64)) [
+      | yes e ↦ rw (e, getD-set-same ws (j / 64) (turned ws j) 0 h)
+          (ap (λ (x : ℕ). eqb x 1) (flip-other (getD ws (j / 64) 0) (j % 64) (k % 64) (λ q. ne (omega arith))))
+      | no n ↦ ap (λ (x : ℕ). eqb (digit x (k % 64)) 1) (getD-set-other ws (j / 64) (k / 64) (turned ws j) 0 n)
+    ]
+
+-- ---- a test of two Bools
+not-is : (a b : Bool) → (a ≡ b → ⊥) → not a ≡ b
+not-is true true f = absurd (f refl)
+not-is true false f = refl
+not-is false true f = refl
+not-is false false f = absurd (f refl)
+
+pub beq-same : (a b : Bool) → not (Bool·beq a b) ≡ false → a ≡ b
+beq-same true true e = refl
+beq-same true false e = e
+beq-same false true e = sym e
+beq-same false false e = refl
+
+pub beq-other : (a b : Bool) → not (Bool·beq a b) ≡ true → a ≡ b → ⊥
+beq-other true true e q = subst T (sym e) tt
+beq-other true false e q = subst T q tt
+beq-other false true e q = subst T (sym q) tt
+beq-other false false e q = subst T (sym e) tt
+
+-- ---- what `put` does, where the bit is wrong and where it is right
+pub put-flips : (ws : List ℕ) (j : ℕ) (b : Bool) → j / 64 < length ws → (bit-of ws j ≡ b → ⊥) → bit-of (flipped ws j) ≡ updated (bit-of ws) j b
+unfolding updated
+put-flips ws j b h ne = fun-ext λ k. elim (ℕ-discrete k j) [
+  | yes e ↦ rw (e, eq-eqb j j refl) (flipped-same ws j h ∙ not-is (bit-of ws j) b ne)
+  | no n ↦ rw (ne-eqb k j n) (flipped-other ws j k h n)
+]
+
+pub put-keeps : (f : ℕ → Bool) (j : ℕ) (b : Bool) → f j ≡ b → f ≡ updated f j b
+unfolding updated
+put-keeps f j b e = fun-ext λ k. elim (ℕ-discrete k j) [
+  | yes q ↦ rw (q, eq-eqb j j refl) e
+  | no n ↦ rw (ne-eqb k j n) refl
+]

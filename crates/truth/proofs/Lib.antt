@@ -1,0 +1,3 @@
+mod Flips
+pub mod Bits
+pub mod Words
