@@ -1,0 +1,5 @@
+pub mod Table
+pub mod Worths
+pub mod Laws
+pub mod Bytes
+pub mod Written

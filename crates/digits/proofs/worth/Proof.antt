@@ -1,0 +1,15 @@
+-- `digits::worth` meets its contract.
+-- The table follows its rule at every entry.
+use Rattle.digits.proofs.Worths.{follows}
+use borrow.Author.Needs.{needs}
+use Rattle.digits.proofs.worth.Statement.{statement}
+use Rattle.digits.proofs.worth.Tie as tie
+
+array-read-result : tie.Need-array-read-result
+array-read-result c = search needs
+
+returns : tie.Need-returns
+returns c = follows (c .args .b) (search needs)
+
+pub worth-spec : {M : Type 1} → statement M
+worth-spec = tie.close (tie.spec array-read-result returns)

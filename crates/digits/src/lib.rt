@@ -1,0 +1,348 @@
+// Hexadecimal digits. The worth of every byte value comes from one table.
+ghost use mathlib.Core.Path.{_≡_};
+ghost use mathlib.Core.Bool.{_&&_};
+ghost use Prim.Native.Nat.{_<_};
+ghost use lib.ListN.{getD};
+ghost use Rattle.digits.specs.Digits.{worth-of, pair-of, byte-at, bytes-at, digit-of};
+
+const WORTHS: [u8; 256] = [
+    255,
+    255,
+    255,
+    255,
+    255,
+    255,
+    255,
+    255,
+    255,
+    255,
+    255,
+    255,
+    255,
+    255,
+    255,
+    255,
+    255,
+    255,
+    255,
+    255,
+    255,
+    255,
+    255,
+    255,
+    255,
+    255,
+    255,
+    255,
+    255,
+    255,
+    255,
+    255,
+    255,
+    255,
+    255,
+    255,
+    255,
+    255,
+    255,
+    255,
+    255,
+    255,
+    255,
+    255,
+    255,
+    255,
+    255,
+    255,
+    0,
+    1,
+    2,
+    3,
+    4,
+    5,
+    6,
+    7,
+    8,
+    9,
+    255,
+    255,
+    255,
+    255,
+    255,
+    255,
+    255,
+    255,
+    255,
+    255,
+    255,
+    255,
+    255,
+    255,
+    255,
+    255,
+    255,
+    255,
+    255,
+    255,
+    255,
+    255,
+    255,
+    255,
+    255,
+    255,
+    255,
+    255,
+    255,
+    255,
+    255,
+    255,
+    255,
+    255,
+    255,
+    255,
+    255,
+    255,
+    255,
+    10,
+    11,
+    12,
+    13,
+    14,
+    15,
+    255,
+    255,
+    255,
+    255,
+    255,
+    255,
+    255,
+    255,
+    255,
+    255,
+    255,
+    255,
+    255,
+    255,
+    255,
+    255,
+    255,
+    255,
+    255,
+    255,
+    255,
+    255,
+    255,
+    255,
+    255,
+    255,
+    255,
+    255,
+    255,
+    255,
+    255,
+    255,
+    255,
+    255,
+    255,
+    255,
+    255,
+    255,
+    255,
+    255,
+    255,
+    255,
+    255,
+    255,
+    255,
+    255,
+    255,
+    255,
+    255,
+    255,
+    255,
+    255,
+    255,
+    255,
+    255,
+    255,
+    255,
+    255,
+    255,
+    255,
+    255,
+    255,
+    255,
+    255,
+    255,
+    255,
+    255,
+    255,
+    255,
+    255,
+    255,
+    255,
+    255,
+    255,
+    255,
+    255,
+    255,
+    255,
+    255,
+    255,
+    255,
+    255,
+    255,
+    255,
+    255,
+    255,
+    255,
+    255,
+    255,
+    255,
+    255,
+    255,
+    255,
+    255,
+    255,
+    255,
+    255,
+    255,
+    255,
+    255,
+    255,
+    255,
+    255,
+    255,
+    255,
+    255,
+    255,
+    255,
+    255,
+    255,
+    255,
+    255,
+    255,
+    255,
+    255,
+    255,
+    255,
+    255,
+    255,
+    255,
+    255,
+    255,
+    255,
+    255,
+    255,
+    255,
+    255,
+    255,
+    255,
+    255,
+    255,
+    255,
+    255,
+    255,
+    255,
+    255,
+    255,
+    255,
+    255,
+    255,
+    255,
+    255,
+    255,
+    255,
+    255,
+    255,
+    255,
+    255,
+    255,
+    255,
+    255,
+    255,
+    255,
+];
+
+// A byte as an index or a count.
+pub fn wide(x: u8) -> usize
+    ensures { λ r. ⌜ (r ≡ x) × (r < 256) ⌝ }
+{
+    x as usize
+}
+
+// Whether both hold.
+pub fn and(a: bool, b: bool) -> bool
+    ensures { λ r. ⌜ r ≡ a && b ⌝ }
+{
+    if a { b } else { false }
+}
+
+// What a byte is worth as a digit; 255 where it is none.
+pub fn worth(b: u8) -> u8
+    ensures { λ r. ⌜ r ≡ worth-of b ⌝ }
+{
+    let i = b as usize;
+    WORTHS[i]
+}
+
+// The byte of a high and a low digit that are worth so much; 0 where one of them is none.
+fn pair(high: u8, low: u8) -> u8
+    ensures { λ r. ⌜ r ≡ pair-of high low ⌝ }
+{
+    if 15 < high {
+        return 0;
+    }
+    if 15 < low {
+        return 0;
+    }
+    high * 16 + low
+}
+
+// What stands at `i`; 0 past the end.
+fn char_at(text: &[u8], i: usize) -> u8
+    ensures { λ r. ⌜ r ≡ getD (now (text .entry)) i 0 ⌝ }
+{
+    if i < text.len() { text[i] } else { 0 }
+}
+
+// The byte that the digits at `place` and after it make; 0 where they are not two digits.
+fn byte_at(text: &[u8], place: usize) -> u8
+    ensures { λ r. ⌜ r ≡ byte-at (now (text .entry)) place ⌝ }
+{
+    if text.len() <= place {
+        return 0;
+    }
+    let next = place + 1;
+    let high = worth(char_at(text, place));
+    let low = worth(char_at(text, next));
+    pair(high, low)
+}
+
+// Byte i of the `size` bytes whose digits start at `place`; 0 past them.
+pub fn byte(text: &[u8], place: usize, size: usize, i: usize) -> u8
+    ensures { λ r. ⌜ r ≡ getD (bytes-at (now (text .entry)) place size) i 0 ⌝ }
+{
+    if size <= i {
+        return 0;
+    }
+    if text.len() <= place {
+        return 0;
+    }
+    let rest = text.len() - place;
+    if rest <= i {
+        return 0;
+    }
+    let there = place + 2 * i;
+    byte_at(text, there)
+}
+
+// The small digit that is worth n; 0, which is no digit, where n is over 15.
+pub fn digit(n: u8) -> u8
+    ensures { λ r. ⌜ r ≡ digit-of n ⌝ }
+{
+    if n <= 9 {
+        return n + 48;
+    }
+    if n <= 15 { n + 87 } else { 0 }
+}

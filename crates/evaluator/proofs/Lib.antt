@@ -1,0 +1,2 @@
+mod Meets
+pub mod Settled

@@ -1,0 +1,22 @@
+use borrow.Author.Needs.{needs}
+use Rattle.evaluator.proofs.joined.Statement.{statement}
+use Rattle.evaluator.proofs.joined.Tie as tie
+use Rattle.evaluator.proofs.joined.Reads as reads
+use Rattle.evaluator.proofs.joined.Lts as lts
+use Rattle.evaluator.proofs.both.Reads as both-reads
+use Rattle.evaluator.proofs.either.Reads as either-reads
+
+both-requires : tie.Need-both-requires
+both-requires c κs = search needs
+
+either-requires : tie.Need-either-requires
+either-requires c κs = search needs
+
+returns : tie.Need-returns
+returns c = rw (c .before .if1 .taken) (c .both .ensures)
+
+returns-2 : tie.Need-returns-2
+returns-2 c = rw (c .before .if1 .left) (c .either .ensures)
+
+pub joined-spec : {M : Type 1} → statement M
+joined-spec = tie.close (tie.spec both-requires either-requires returns returns-2)

@@ -1,0 +1,4 @@
+pub mod Told
+pub mod Terms
+pub mod Laws
+pub mod Bodies

@@ -1,0 +1,46 @@
+-- `formulas::signature_of` meets its contract.
+-- The first ranges, at most the four that there are.
+use mathlib.Core.Path.{_≡_}
+use mathlib.Core.List.{_∷_, []}
+use lib.ListN.{length}
+use Rattle.formulas.proofs.Bodies.{signature}
+use borrow.Author.Needs.{needs}
+use Rattle.formulas.proofs.signature_of.Statement.{statement}
+use Rattle.formulas.proofs.signature_of.Tie as tie
+
+array-read-t7 : tie.Need-array-read-t7
+array-read-t7 c = search needs
+
+array-read-t10 : tie.Need-array-read-t10
+array-read-t10 c = search needs
+
+array-read-t13 : tie.Need-array-read-t13
+array-read-t13 c = search needs
+
+array-read-t16 : tie.Need-array-read-t16
+array-read-t16 c = search needs
+
+wide-requires : tie.Need-wide-requires
+wide-requires c κs = search needs
+
+smaller-requires : tie.Need-smaller-requires
+smaller-requires c κs = search needs
+
+returns : tie.Need-returns
+returns c =
+    let a = c .before .before .before .args in
+    let n : length (a .e .ranges) ≡ 4 = search needs in
+    let s = rw (c .before .wide .ensures .0) at (c .smaller .ensures) in
+    signature (a .e .ranges) (0 ∷ 0 ∷ 0 ∷ 0 ∷ []) (a .e .k) (c .smaller .result) n (s .0) (s .1)
+
+pub signature-of-spec : {M : Type 1} → statement M
+signature-of-spec =
+    tie.close
+    (tie.spec
+    array-read-t7
+    array-read-t10
+    array-read-t13
+    array-read-t16
+    wide-requires
+    smaller-requires
+    returns)
