@@ -9,14 +9,14 @@ use lib.Dec.{ltb, leb}
 use lib.ListN.{getD}
 use borrow.Author.Tests.{ltb-true, leb-true}
 use Rattle.meaning.specs.Logic.{over, _and_}
-use Rattle.meaning.specs.Formulas.{Term, Formula, instance, calculation, value, values, test-holds}
+use Rattle.meaning.specs.Formulas.{Formula, calculation, value, values, test-holds}
 use Rattle.meaning.specs.Ranges.{is-range}
 use Rattle.meaning.specs.Words.{word}
 use Rattle.formulas.specs.declared.Test.{Test}
 use Rattle.formulas.specs.declared.Kind.the-variants.{NoFormula, Constant, Join, Quantifier, Compare, Instance}
 use Rattle.formulas.specs.declared.TermKind.the-variants.{NoTerm, Number, Variable, Calculation}
 use Rattle.formulas.specs.Codes.{kind-of, term-kind-of}
-use Rattle.formulas.specs.Decode.{Parsed, none, some, in-row, test-of, term-at, terms-at, formula-at, Reads, nothing, read}
+use Rattle.formulas.specs.Decode.{Parsed, some, in-row, test-of, term-at, terms-at, formula-at, Reads, nothing, read}
 use Rattle.formulas.specs.Shapes.{shape-no-term, shape-number, shape-variable, shape-calculation, compared-at, instance-at}
 use Rattle.formulas.specs.Shapes.{shape-no-formula, shape-constant, shape-join, shape-quantifier, shape-compare, shape-instance}
 use Rattle.formulas.specs.Reads.{reads-then, reads-when, reads-map, reads-both}
@@ -32,10 +32,10 @@ range-pos (suc r) h = omega arith
 
 -- ---- terms: x is the value of the term at `at`
 module _ (s : List ℕ) (k at : ℕ) (v : List ℕ) (x : ℕ) where
-  pub term-none : (n e : ℕ) → term-kind-of (getD s at 0) ≡ NoTerm → Reads (λ t. x ≡ value t v) e (term-at n s k at)
+  pub term-none : {e : ℕ} (n : ℕ) → term-kind-of (getD s at 0) ≡ NoTerm → Reads (λ t. x ≡ value t v) e (term-at n s k at)
   unfolding term-at
-  term-none zero e h = nothing
-  term-none (suc n) e h = rw (shape-no-term n s k at h) nothing
+  term-none zero h = nothing
+  term-none (suc n) h = rw (shape-no-term n s k at h) nothing
 
   pub term-number : (n : ℕ) → term-kind-of (getD s at 0) ≡ Number → x ≡ getD s (at + 1) 0 → Reads (λ t. x ≡ value t v) (at + 2) (term-at n s k at)
   unfolding term-at value

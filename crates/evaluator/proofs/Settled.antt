@@ -6,7 +6,7 @@ use mathlib.Core.Bool.{Bool, true, false, not}
 use mathlib.Core.List.{List, [], _∷_, _++_}
 use Rattle.meaning.specs.Logic.{join, over, Is, _and_, _or_}
 use Rattle.meaning.specs.Solution.{Assign, mem}
-use Rattle.meaning.specs.Formulas.{Formula, constant, joined, quantified, compared, instance, value, values, test-holds, holds}
+use Rattle.meaning.specs.Formulas.{Formula, constant, joined, quantified, compared, instance, values, holds}
 use Rattle.meaning.specs.Reach.{Instance, Simplified, decided, left, join-simplified, simplified, instances}
 use Rattle.meaning.specs.Words.{word}
 use Rattle.meaning.specs.Members.{mem-head, mem-left, mem-right}

@@ -1,6 +1,6 @@
 -- What the contracts of the evaluator say: where a formula, a term or an instance can be read at a place, what its value is and where it ends.
 -- They hold for every depth n of reading, so that no caller has to find one; `on` is what the end of the recursion hangs on.
-use Prim.Native.Nat.{ℕ, suc, _+_, _≤_, _<_}
+use Prim.Native.Nat.{ℕ, _+_, _≤_, _<_}
 use mathlib.Core.Path.{_≡_}
 use mathlib.Core.Bool.{Bool}
 use mathlib.Core.List.{List, [], _∷_, _++_}

@@ -1,6 +1,6 @@
 -- DEFINITIONS: the value of a formula, some of whose instances may be open. Document 01, "Meaning and reach".
 -- With a number for every instance the value is the formula's truth; with none it is what is left of the simplified right side.
-use Prim.Native.Nat.{ℕ, zero, suc}
+use Prim.Native.Nat.{ℕ, suc}
 use mathlib.Core.Bool.{Bool, true, false, not, cond}
 use mathlib.Core.List.{List, [], _∷_, _++_}
 use lib.Dec.{eqb, ltb}

@@ -4,7 +4,7 @@ use borrow.Author.Needs.{needs}
 use native.Mathlib.Omega.{arith}
 use Rattle.formulas.specs.Scopes.{seen}
 use Rattle.evaluator.proofs.Meets.{terms-none, terms-more}
-use Prim.Native.Nat.{ℕ, _<_, _≤_, _+_, _-_, _*_}
+use Prim.Native.Nat.{ℕ, _<_, _-_}
 use borrow.Fn.Kinds.{In}
 use borrow.Fn.PlainCycle.{Measures, is, falls, and}
 use Rattle.evaluator.proofs.arguments.Reads as arguments
@@ -30,7 +30,7 @@ arguments-calls t = (term-reads.Asked, term-reads.Learnt, push-reads.Asked, push
 arguments-returns : (t : ℕ) → arguments-lts.Need-returns (arguments-calls t) (arguments-at t) arguments.Post
 arguments-returns t c =
     let a = c .before .before .args in
-    record { on = omega arith; meets = λ m. terms-none m (a .body .now) (a .scope .count) (a .at) (seen (a .scope)) (a .n) (seen (a .got)) (c .if1 .taken) }
+    record { on = omega arith; meets = λ m. terms-none m _ _ _ _ (a .n) (seen (a .got)) (c .if1 .taken) }
 
 arguments-term-requires : (t : ℕ) → arguments-lts.Need-term-requires (arguments-calls t) (arguments-at t) arguments.Post
 arguments-term-requires t c κs = search needs
@@ -52,7 +52,7 @@ arguments-returns-2 t c =
     let p = c .before .push .ensures .1 (omega arith) in
     let x = c .before .before .term .ensures in
     let r = c .arguments .ensures in
-    record { on = omega (arith, x .on, r .on); meets = λ m. terms-more m (a .body .now) (a .scope .count) (a .at) (seen (a .scope)) (a .n) (a .n - 1) (seen (a .got)) (omega arith) (x .meets m) (p .1) (r .meets m) }
+    record { on = omega (arith, x .on, r .on); meets = λ m. terms-more m _ _ _ _ (a .n) (a .n - 1) (seen (a .got)) (omega arith) (x .meets m) (p .1) (r .meets m) }
 
 pub +arguments-spec : {M : Type 1} → statement M
 +arguments-spec =

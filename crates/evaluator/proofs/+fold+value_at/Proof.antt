@@ -1,4 +1,4 @@
--- The cycle of calls {fold, value_at} meets its contracts: one law for each kind of formula, and two for a quantifier's values.
+-- The cycle of calls {fold, value_at} meets its contracts: one law for each kind of formula, and three for a quantifier's values.
 -- It ends because what is left of the body, 512 for each byte, and for `fold` the values left, get less: a byte holds fewer than 511 values.
 use borrow.Author.Needs.{needs}
 use native.Mathlib.Omega.{arith}
@@ -7,9 +7,8 @@ use lib.ListN.{length, getD, List·getD-eq-default}
 use Rattle.formulas.specs.Codes.{kind-of}
 use Rattle.formulas.specs.Shapes.{no-kind}
 use Rattle.formulas.specs.Scopes.{seen}
-use Rattle.evaluator.specs.Values.{assignment}
 use Rattle.evaluator.proofs.Meets.{value-none, value-constant, value-join, value-quantifier, value-compare, value-instance, fold-one, fold-stops, fold-more}
-use Prim.Native.Nat.{ℕ, _<_, _≤_, _+_, _-_, _*_}
+use Prim.Native.Nat.{ℕ, _<_, _+_, _-_, _*_}
 use borrow.Fn.Kinds.{In}
 use borrow.Fn.PlainCycle.{Measures, is, falls, and}
 use Rattle.evaluator.proofs.fold.Reads as fold
@@ -48,10 +47,38 @@ abbrev value-at-below : ℕ → In 3 value-at-kinds.ps
 value-at-below t = and 3 value-at-kinds.ps (falls 3 value-at-kinds.ps _<_ μ-value-at t) value-at.Pre
 
 abbrev fold-calls : ℕ → fold-lts.Claims
-fold-calls t = (push-reads.Asked, push-reads.Learnt, value-at-below t, value-at.Post, decides-reads.Asked, decides-reads.Learnt, fold-below t, fold.Post, joined-reads.Asked, joined-reads.Learnt)
+fold-calls t = (
+  push-reads.Asked,
+  push-reads.Learnt,
+  value-at-below t,
+  value-at.Post,
+  decides-reads.Asked,
+  decides-reads.Learnt,
+  fold-below t,
+  fold.Post,
+  joined-reads.Asked,
+  joined-reads.Learnt,
+)
 
 abbrev value-at-calls : ℕ → value-at-lts.Claims
-value-at-calls t = (byte-reads.Asked, byte-reads.Learnt, kind-of-reads.Asked, kind-of-reads.Learnt, known-reads.Asked, known-reads.Learnt, value-at-below t, value-at.Post, joined-reads.Asked, joined-reads.Learnt, fold-below t, fold.Post, compare-reads.Asked, compare-reads.Learnt, instance-reads.Asked, instance-reads.Learnt)
+value-at-calls t = (
+  byte-reads.Asked,
+  byte-reads.Learnt,
+  kind-of-reads.Asked,
+  kind-of-reads.Learnt,
+  known-reads.Asked,
+  known-reads.Learnt,
+  value-at-below t,
+  value-at.Post,
+  joined-reads.Asked,
+  joined-reads.Learnt,
+  fold-below t,
+  fold.Post,
+  compare-reads.Asked,
+  compare-reads.Learnt,
+  instance-reads.Asked,
+  instance-reads.Learnt,
+)
 
 fold-push-requires : (t : ℕ) → fold-lts.Need-push-requires (fold-calls t) (fold-at t) fold.Post
 fold-push-requires t c κs = search needs
@@ -67,8 +94,7 @@ fold-returns t c =
       on = v .on;
       meets = λ n q lt le pos.
           let p = c .before .before .push .ensures .1 (omega arith) in
-          fold-one (a .body .now) (a .scope .count) q (a .at) (seen (a .scope)) (assignment (a .table .now) (a .truth .now)) (a .all) (a .v) (a .left) n
-          (p .0) (p .1) (v .meets n (q + 1) (omega (arith, p .0))) (omega arith);
+          fold-one _ _ q _ (seen (a .scope)) _ (a .all) (a .v) (a .left) n (p .0) (p .1) (v .meets n (q + 1) (omega (arith, p .0))) (omega arith);
     }
 
 fold-decides-requires : (t : ℕ) → fold-lts.Need-decides-requires (fold-calls t) (fold-at t) fold.Post
@@ -82,8 +108,8 @@ fold-returns-2 t c =
       on = v .on;
       meets = λ n q lt le pos.
           let p = c .before .before .before .before .push .ensures .1 (omega arith) in
-          fold-stops (a .body .now) (a .scope .count) q (a .at) (seen (a .scope)) (assignment (a .table .now) (a .truth .now)) (a .all) (a .v) (a .left) n
-          (p .0) (p .1) (v .meets n (q + 1) (omega (arith, p .0))) (c .before .before .if1 .left) (sym (c .before .decides .ensures) ∙ c .if2 .taken);
+          fold-stops _ _ q _ (seen (a .scope)) _ (a .all) (a .v) (a .left) n (p .0) (p .1)
+          (v .meets n (q + 1) (omega (arith, p .0))) (c .before .before .if1 .left) (sym (c .before .decides .ensures) ∙ c .if2 .taken);
     }
 
 fold-add-fold : (t : ℕ) → fold-lts.Need-add-fold (fold-calls t) (fold-at t) fold.Post
@@ -106,15 +132,20 @@ fold-returns-3 t c =
       on = v .on;
       meets = λ n q lt le pos.
           let p = c .before .before .before .before .before .before .push .ensures .1 (omega arith) in
-          fold-more (a .body .now) (a .scope .count) q (a .at) (seen (a .scope)) (assignment (a .table .now) (a .truth .now)) (a .all) (a .v) (a .left) n
-          (p .0) (p .1) (v .meets n (q + 1) (omega (arith, p .0))) (c .before .before .before .before .if1 .left) (c .before .fold .ensures .meets n q lt le (omega arith)) (c .joined .ensures);
+          fold-more _ _ q _ (seen (a .scope)) _ (a .all) (a .v) (a .left) n (p .0) (p .1)
+          (v .meets n (q + 1) (omega (arith, p .0))) (c .before .before .before .before .if1 .left) (c .before .fold .ensures .meets n q lt le (omega arith)) (c .joined .ensures);
     }
+
+-- the kind of the code at the place is what was found
+found : (t : ℕ) (c : value-at-lts.After-kind-of (value-at-calls t) (value-at-at t) value-at.Post)
+    → kind-of (getD (c .before .before .before .before .before .args .body .now) (c .before .before .before .before .before .args .at) 0) ≡ c .kind-of .result
+found t c = ap kind-of (sym (c .before .byte .ensures)) ∙ sym (c .kind-of .ensures)
 
 value-at-returns : (t : ℕ) → value-at-lts.Need-returns (value-at-calls t) (value-at-at t) value-at.Post
 value-at-returns t c =
     let a = c .before .before .before .args in
     let z : getD (a .body .now) (a .at) 0 ≡ 0 = List·getD-eq-default (a .body .now) 0 (c .if1 .taken) in
-    record { on = omega arith; meets = λ n q le. value-none (a .body .now) (a .scope .count) q (a .at) (seen (a .scope)) (assignment (a .table .now) (a .truth .now)) _ _ n (rw z no-kind) }
+    record { on = omega arith; meets = λ n q le. value-none _ _ q _ _ _ _ _ n (rw z no-kind) }
 
 value-at-add-next : (t : ℕ) → value-at-lts.Need-add-next (value-at-calls t) (value-at-at t) value-at.Post
 value-at-add-next t c = search needs
@@ -172,45 +203,39 @@ value-at-instance-requires t c κs = omega arith
 
 value-at-returns-2 : (t : ℕ) → value-at-lts.Need-returns-2 (value-at-calls t) (value-at-at t) value-at.Post
 value-at-returns-2 t c =
-    let a = c .before .before .before .before .before .before .before .args in
-    let k = ap kind-of (sym (c .before .before .before .byte .ensures)) ∙ sym (c .before .before .kind-of .ensures) ∙ c .enum-told .given .1 in
-    record { on = omega arith; meets = λ n q le. value-none (a .body .now) (a .scope .count) q (a .at) (seen (a .scope)) (assignment (a .table .now) (a .truth .now)) _ _ n k }
+    let k = found t (c .before .before) ∙ c .enum-told .given .1 in
+    record { on = omega arith; meets = λ n q le. value-none _ _ q _ _ _ _ _ n k }
 
 value-at-returns-3 : (t : ℕ) → value-at-lts.Need-returns-3 (value-at-calls t) (value-at-at t) value-at.Post
 value-at-returns-3 t c =
-    let a = c .before .before .before .before .before .before .before .before .before .args in
-    let k = ap kind-of (sym (c .before .before .before .before .before .byte .ensures)) ∙ sym (c .before .before .before .before .kind-of .ensures) ∙ c .before .before .k .given .1 in
-    record { on = omega arith; meets = λ n q le. value-constant (a .body .now) (a .scope .count) q (a .at) (seen (a .scope)) (assignment (a .table .now) (a .truth .now)) _ _ n _ k (c .known .ensures) refl }
+    let k = found t (c .before .before .before .before) ∙ c .before .before .k .given .1 in
+    record { on = omega arith; meets = λ n q le. value-constant _ _ q _ _ _ _ _ n _ k (c .known .ensures) refl }
 
 value-at-returns-4 : (t : ℕ) → value-at-lts.Need-returns-4 (value-at-calls t) (value-at-at t) value-at.Post
 value-at-returns-4 t c =
-    let a = c .before .before .before .before .before .before .before .before .before .before .before .args in
-    let k = ap kind-of (sym (c .before .before .before .before .before .before .before .byte .ensures)) ∙ sym (c .before .before .before .before .before .before .kind-of .ensures) ∙ c .before .before .before .before .k2 .given .1 in
+    let k = found t (c .before .before .before .before .before .before) ∙ c .before .before .before .before .k2 .given .1 in
     let p = c .before .before .value-at .ensures in
     let r = c .before .value-at2 .ensures in
-    record { on = omega (arith, p .on, r .on); meets = λ n q le. value-join (a .body .now) (a .scope .count) q (a .at) (seen (a .scope)) (assignment (a .table .now) (a .truth .now)) _ _ n _ k (λ m. p .meets m q le) (λ m. r .meets m q le) (c .joined .ensures) }
+    record { on = omega (arith, p .on, r .on); meets = λ n q le. value-join _ _ q _ _ _ _ _ n _ k (λ m. p .meets m q le) (λ m. r .meets m q le) (c .joined .ensures) }
 
 value-at-returns-5 : (t : ℕ) → value-at-lts.Need-returns-5 (value-at-calls t) (value-at-at t) value-at.Post
 value-at-returns-5 t c =
-    let a = c .before .before .before .before .before .before .before .before .before .before .args in
-    let k = ap kind-of (sym (c .before .before .before .before .before .before .byte .ensures)) ∙ sym (c .before .before .before .before .before .kind-of .ensures) ∙ c .before .before .before .k3 .given .1 in
+    let k = found t (c .before .before .before .before .before) ∙ c .before .before .before .k3 .given .1 in
     let b = c .before .byte2 .ensures in
     let r = c .fold .ensures in
-    record { on = omega (arith, r .on); meets = λ n q le. value-quantifier (a .body .now) (a .scope .count) q (a .at) (seen (a .scope)) (assignment (a .table .now) (a .truth .now)) _ _ n _ k (λ lt pos m. rw b at (r .meets m q lt le (rw b pos))) }
+    record { on = omega (arith, r .on); meets = λ n q le. value-quantifier _ _ q _ _ _ _ _ n _ k (λ lt pos m. rw b at (r .meets m q lt le (rw b pos))) }
 
 value-at-returns-6 : (t : ℕ) → value-at-lts.Need-returns-6 (value-at-calls t) (value-at-at t) value-at.Post
 value-at-returns-6 t c =
-    let a = c .before .before .before .before .before .before .before .before .before .args in
-    let k = ap kind-of (sym (c .before .before .before .before .before .byte .ensures)) ∙ sym (c .before .before .before .before .kind-of .ensures) ∙ c .before .before .k4 .given .1 in
+    let k = found t (c .before .before .before .before) ∙ c .before .before .k4 .given .1 in
     let r = c .compare .ensures in
-    record { on = omega (arith, r .on); meets = λ n q le. value-compare (a .body .now) (a .scope .count) q (a .at) (seen (a .scope)) (assignment (a .table .now) (a .truth .now)) _ _ n _ k (r .meets _) }
+    record { on = omega (arith, r .on); meets = λ n q le. value-compare _ _ q _ _ _ _ _ n _ k (r .meets _) }
 
 value-at-returns-7 : (t : ℕ) → value-at-lts.Need-returns-7 (value-at-calls t) (value-at-at t) value-at.Post
 value-at-returns-7 t c =
-    let a = c .before .before .before .before .before .before .before .before .args in
-    let k = ap kind-of (sym (c .before .before .before .before .byte .ensures)) ∙ sym (c .before .before .before .kind-of .ensures) ∙ c .before .enum-told2 .given .1 in
+    let k = found t (c .before .before .before) ∙ c .before .enum-told2 .given .1 in
     let r = c .instance .ensures in
-    record { on = omega (arith, r .on); meets = λ n q le. value-instance (a .body .now) (a .scope .count) q (a .at) (seen (a .scope)) (assignment (a .table .now) (a .truth .now)) _ _ n k (r .meets) }
+    record { on = omega (arith, r .on); meets = λ n q le. value-instance _ _ q _ _ _ _ _ n k (r .meets) }
 
 pub +fold+value-at-spec : {M : Type 1} → statement M
 +fold+value-at-spec =
@@ -219,4 +244,8 @@ pub +fold+value-at-spec : {M : Type 1} → statement M
     (fold-push-requires t) (fold-value-at-requires t) (fold-returns t) (fold-decides-requires t) (fold-returns-2 t)
     (fold-add-fold t) (fold-sub-fold t) (fold-fold-requires t) (fold-joined-requires t) (fold-returns-3 t))
     (λ t. value-at-lts.spec (value-at-calls t) (value-at-at t) value-at.Post
-    (value-at-returns t) (value-at-add-next t) (value-at-byte-requires t) (value-at-kind-of-requires t) (value-at-enum-told t) (value-at-enum-known-k t) (value-at-known-requires t) (value-at-enum-known-k-2 t) (value-at-value-at-requires t) (value-at-value-at-requires-2 t) (value-at-joined-requires t) (value-at-enum-known-k-3 t) (value-at-add-fold t) (value-at-byte-requires-2 t) (value-at-fold-requires t) (value-at-enum-known-k-4 t) (value-at-compare-requires t) (value-at-enum-told-2 t) (value-at-instance-requires t) (value-at-returns-2 t) (value-at-returns-3 t) (value-at-returns-4 t) (value-at-returns-5 t) (value-at-returns-6 t) (value-at-returns-7 t))
+    (value-at-returns t) (value-at-add-next t) (value-at-byte-requires t) (value-at-kind-of-requires t) (value-at-enum-told t) (value-at-enum-known-k t)
+    (value-at-known-requires t) (value-at-enum-known-k-2 t) (value-at-value-at-requires t) (value-at-value-at-requires-2 t) (value-at-joined-requires t)
+    (value-at-enum-known-k-3 t) (value-at-add-fold t) (value-at-byte-requires-2 t) (value-at-fold-requires t) (value-at-enum-known-k-4 t) (value-at-compare-requires t)
+    (value-at-enum-told-2 t) (value-at-instance-requires t) (value-at-returns-2 t) (value-at-returns-3 t) (value-at-returns-4 t) (value-at-returns-5 t) (value-at-returns-6 t)
+    (value-at-returns-7 t))

@@ -1,8 +1,8 @@
--- `evaluator::compare` meets its contract. Assumes nothing.
+-- `evaluator::compare` meets its contract: the values of two terms in a row are tested.
+-- What is known of each term, where both were read, is carried over to the test.
 use native.Mathlib.Omega.{arith}
 use mathlib.Core.Path.{ap, _∙_}
 use Rattle.evaluator.specs.Values.{known}
-use Rattle.formulas.specs.Scopes.{seen}
 use Rattle.evaluator.proofs.Meets.{compare-meets}
 use borrow.Author.Needs.{needs}
 use Rattle.evaluator.proofs.compare.Statement.{statement}
@@ -26,7 +26,7 @@ returns c =
     let a = ca .before .before .args in
     record {
       on = omega (arith, ca .term .ensures .on, c .before .before .term2 .ensures .on);
-      meets = λ σ n. compare-meets n (a .t) (a .body .now) (a .scope .count) (a .at) (seen (a .scope)) σ (ca .term .ensures .meets n) (c .before .before .term2 .ensures .meets n) (c .known .ensures ∙ ap known (c .before .tested .ensures));
+      meets = λ σ n. compare-meets n (a .t) _ _ _ _ σ (ca .term .ensures .meets n) (c .before .before .term2 .ensures .meets n) (c .known .ensures ∙ ap known (c .before .tested .ensures));
     }
 
 pub compare-spec : {M : Type 1} → statement M

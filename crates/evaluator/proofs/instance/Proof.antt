@@ -2,9 +2,7 @@
 -- What is known of the word, where an instance was read, is carried over to the value.
 use native.Mathlib.Omega.{arith}
 use borrow.Author.Needs.{needs}
-use Rattle.formulas.specs.Scopes.{seen}
 use Rattle.formulas.specs.Reads.{reads-map}
-use Rattle.evaluator.specs.Values.{assignment}
 use Rattle.evaluator.proofs.Meets.{named-value}
 use Rattle.evaluator.proofs.instance.Statement.{statement}
 use Rattle.evaluator.proofs.instance.Tie as tie
@@ -17,11 +15,10 @@ value-of-requires c κs = search needs
 
 returns : tie.Need-returns
 returns c =
-    let a = c .before .before .before .before .args in
     let w = c .before .word-at .ensures in
     record {
       on = omega (arith, w .on);
-      meets = λ n. reads-map (w .meets (omega arith) n) (named-value (seen (a .scope)) (assignment (a .table .now) (a .truth .now)) (c .value-of .ensures));
+      meets = λ n. reads-map (w .meets (omega arith) n) (named-value _ _ (c .value-of .ensures));
     }
 
 pub instance-spec : {M : Type 1} → statement M

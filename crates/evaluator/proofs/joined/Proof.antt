@@ -1,10 +1,8 @@
+-- `evaluator::joined` meets its contract: `and` and `or` have a function each.
+-- The flag says which of the two it is.
 use borrow.Author.Needs.{needs}
 use Rattle.evaluator.proofs.joined.Statement.{statement}
 use Rattle.evaluator.proofs.joined.Tie as tie
-use Rattle.evaluator.proofs.joined.Reads as reads
-use Rattle.evaluator.proofs.joined.Lts as lts
-use Rattle.evaluator.proofs.both.Reads as both-reads
-use Rattle.evaluator.proofs.either.Reads as either-reads
 
 both-requires : tie.Need-both-requires
 both-requires c κs = search needs

@@ -1,10 +1,11 @@
--- `evaluator::lookup` meets its contract. The invariant: what is left to look through decides how far past i the word stands. Assumes nothing.
+-- `evaluator::lookup` meets its contract: the search ends at the first match, or at the end.
+-- Until then what is left to look through says how far past i the word stands.
 use borrow.Author.Needs.{needs}
 use borrow.Author.Tests.{eq-eqb, ne-eqb}
 use native.Mathlib.Omega.{arith}
 use native.Mathlib.Numerals.{add-one}
 use Prim.Native.Nat.{ℕ, suc, _+_, _-_, _≤_, _<_}
-use mathlib.Core.Path.{_≡_, refl}
+use mathlib.Core.Path.{_≡_}
 use mathlib.Core.List.{List}
 use lib.ListN.{length, getD, drop, drop-of-length-le}
 use lib.Seq.{drop-cons}

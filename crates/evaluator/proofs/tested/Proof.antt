@@ -1,4 +1,5 @@
--- `evaluator::tested` meets its contract. Assumes nothing.
+-- `evaluator::tested` meets its contract: the code of each test is its definition.
+-- Which test it is stands in the arm.
 use borrow.Author.Needs.{needs}
 use Rattle.evaluator.proofs.tested.Statement.{statement}
 use Rattle.evaluator.proofs.tested.Tie as tie

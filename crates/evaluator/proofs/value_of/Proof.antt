@@ -21,7 +21,8 @@ returns : tie.Need-returns
 unfolding assignment
 returns c =
     let j = c .before .before .before .before .lookup in
-    rw (← j .ensures, lt-ltb (j .result) (length (c .before .before .before .before .before .before .args .table .now)) (c .before .before .before .if1 .taken)) (c .known .ensures ∙ ap known (c .before .has .ensures))
+    rw (← j .ensures, lt-ltb (j .result) (length (c .before .before .before .before .before .before .args .table .now)) (c .before .before .before .if1 .taken))
+    (c .known .ensures ∙ ap known (c .before .has .ensures))
 
 returns-2 : tie.Need-returns-2
 unfolding assignment

@@ -29,7 +29,7 @@ returns-2 c =
     let b = c .before .byte2 .ensures in
     record {
       on = omega arith;
-      meets = λ le n. word-meets n (a .body .now) (a .scope .count) (a .at) (seen (a .scope)) [] (λ few. absurd (omega arith)) (λ few. absurd (omega arith));
+      meets = λ le n. word-meets n (a .body .now) _ (a .at) _ [] (λ few. absurd (omega arith)) (λ few. absurd (omega arith));
     }
 
 add-arguments : tie.Need-add-arguments
@@ -48,7 +48,7 @@ returns-3 c =
     let x = seen (r .result .values) in
     record {
       on = omega (arith, r .ensures .on);
-      meets = λ le n. word-meets n (a .body .now) (a .scope .count) (a .at) (seen (a .scope)) x (λ _. rw (c .before .before .before .before .byte2 .ensures) at (r .ensures .meets n))
+      meets = λ le n. word-meets n _ _ _ _ x (λ _. rw (c .before .before .before .before .byte2 .ensures) at (r .ensures .meets n))
           (λ _. c .word .ensures ∙ ap (λ (e : ℕ). word (e ∷ x)) (c .before .before .before .before .before .byte .ensures));
     }
 

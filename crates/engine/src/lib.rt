@@ -1,0 +1,422 @@
+// Finding the reached instances of a model and solving them.
+ghost use mathlib.Core.Path.{_≡_};
+ghost use mathlib.Core.List.{List, [], _∷_, _++_};
+ghost use Prim.Native.Nat.{ℕ, _+_, _≤_, _<_, _*_, _-_, _/_};
+ghost use lib.ListN.{length, take, drop, getD};
+ghost use Rattle.engine.specs.Stock.{add-one, add};
+ghost use Rattle.engine.specs.Kept.{stock, Kept};
+ghost use mathlib.Core.Bool.{true, false, _&&_, Bool·beq, Bool};
+ghost use Rattle.formulas.specs.Codes.{kind-of};
+ghost use Rattle.formulas.specs.Scopes.{seen, pushed};
+ghost use Rattle.engine.specs.Gathered.{settled, is-open, GatherMeets, PartsMeet, FoldGathers, OpenMeets, words-left};
+ghost use Rattle.meaning.specs.WordLaws.{arguments-of};
+ghost use Rattle.engine.specs.Sides.{Ready, is-true, side-of, sides, of-equation, numbered-system, AllReady};
+ghost use Rattle.engine.specs.Found.{model-in, instance-in, left-in, Searchable, Found};
+ghost use Rattle.truth.specs.Bits.{bit-of, nowhere};
+ghost use Rattle.engine.specs.Decoded.{Decoded};
+ghost use Rattle.engine.specs.Solved.{filled, always, solved};
+use evaluator::Value;
+use formulas::Equation;
+use formulas::Kind;
+use formulas::Scope;
+
+// The bodies of a model's equations as bytes: that of equation e from e * 256 on.
+fn decode(text: &[u8], equations: [Equation; 8]) -> [u8; 2048]
+    ensures { λ r. ⌜ Decoded (now (text .entry)) equations r ⌝ }
+{
+    let mut bodies = [0u8; 2048];
+    let mut j: usize = 0;
+    while j < 2048 {
+        let equation = equations[j / 256];
+        bodies[j] = digits::byte(text, equation.place, equation.length, j % 256);
+        j += 1;
+    }
+    bodies
+}
+
+// The k arguments of a word, as the variables in reach.
+fn scope_of(w: u32, k: u8) -> Scope
+    requires { ⌜ k ≤ 4 ⌝ }
+    ensures { λ r. ⌜ (r .count ≡ k) × (seen r ≡ arguments-of k w) ⌝ }
+{
+    let mut values = [0u8; 8];
+    values[0] = (w / 4096 % 16) as u8;
+    values[1] = (w / 256 % 16) as u8;
+    values[2] = (w / 16 % 16) as u8;
+    values[3] = (w % 16) as u8;
+    Scope {
+        values,
+        count: k as usize,
+    }
+}
+
+// ---- finding
+
+// How far a table is filled: its first `count` words are found; over: one more was found than there is room.
+pub struct Filled {
+    pub count: usize,
+    pub over: bool,
+}
+
+// Adds a word behind those found, unless it is there; where there is no room for it, says so.
+fn add_word(table: &mut [u32], room: usize, s: Filled, w: u32) -> Filled
+    requires { ⌜ (s .count ≤ room) × (room ≤ length (now table)) ⌝ }
+    ensures { λ r. ⌜ Kept room (now (table .entry)) (now (table .exit)) s r × (stock (now (table .exit)) r ≡ add-one room (stock (now (table .entry)) s) w) ⌝ }
+{
+    if s.over {
+        return s;
+    }
+    let n = s.count;
+    if evaluator::lookup(&table[..n], w) < n {
+        return s;
+    }
+    if room <= n {
+        return Filled {
+            count: n,
+            over: true,
+        };
+    }
+    table[n] = w;
+    Filled {
+        count: n + 1,
+        over: false,
+    }
+}
+
+// ---- gathering
+
+// Whether something is left of a formula, and where it ends.
+pub struct Openness {
+    pub left: bool,
+    pub next: usize,
+}
+
+fn is_open(value: Value) -> bool
+    ensures { λ r. ⌜ r ≡ is-open value ⌝ }
+{
+    match value {
+        Value::False => false,
+        Value::True => false,
+        Value::Open => true,
+    }
+}
+
+// Whether something is left of the formula at a place, where nothing is known of any instance.
+fn opened(body: &[u8], at: usize, scope: Scope) -> Openness
+    ensures { λ r. ⌜ OpenMeets (now (body .entry)) at scope (r .left) (r .next) ⌝ }
+{
+    let table = [0u32; 1];
+    let truth = truth::none();
+    let v = evaluator::value_at(body, at, scope, &table[..0], &truth);
+    let value = v.value;
+    Openness {
+        left: is_open(value),
+        next: v.next,
+    }
+}
+
+fn alike(a: bool, b: bool) -> bool
+    ensures { λ r. ⌜ r ≡ Bool·beq a b ⌝ }
+{
+    a == b
+}
+
+// Whether a formula of this kind need not be evaluated first.
+fn is_settled(kind: Kind, within: bool, all: bool) -> bool
+    ensures { λ r. ⌜ r ≡ settled kind within all ⌝ }
+{
+    match kind {
+        Kind::NoFormula => true,
+        Kind::Constant(_) => true,
+        Kind::Join(joins) => digits::and(within, alike(joins, all)),
+        Kind::Quantifier(joins) => digits::and(within, alike(joins, all)),
+        Kind::Compare(_) => true,
+        Kind::Instance => true,
+    }
+}
+
+pub struct Gathered {
+    pub filled: Filled,
+    pub next: usize,
+}
+
+// Adds the instances that are left in the formula at a place. Where it stands within a connective that nothing decides, `all` says which.
+fn gather(
+    body: &[u8],
+    at: usize,
+    scope: Scope,
+    within: bool,
+    all: bool,
+    table: &mut [u32],
+    room: usize,
+    s: Filled,
+) -> Gathered
+    requires { ⌜ (s .count ≤ room) × (room ≤ length (now table)) ⌝ }
+    ensures { λ r. ⌜ GatherMeets room (now (body .entry)) at scope within all (now (table .entry)) (now (table .exit)) s (r .filled) (r .next) ⌝ }
+{
+    if body.len() <= at {
+        return Gathered {
+            filled: s,
+            next: at,
+        };
+    }
+    let kind = formulas::kind_of(evaluator::byte(body, at));
+    if is_settled(kind, within, all) {
+        return gather_parts(body, at, scope, kind, table, room, s);
+    }
+    let o = opened(body, at, scope);
+    if o.left {
+        return gather_parts(body, at, scope, kind, table, room, s);
+    }
+    Gathered {
+        filled: s,
+        next: o.next,
+    }
+}
+
+// The same for a formula of this kind whose connective nothing decides.
+fn gather_parts(
+    body: &[u8],
+    at: usize,
+    scope: Scope,
+    kind: Kind,
+    table: &mut [u32],
+    room: usize,
+    s: Filled,
+) -> Gathered
+    requires { ⌜ (s .count ≤ room) × (room ≤ length (now table)) × (at < length (now body)) × (kind ≡ kind-of (getD (now body) at 0)) ⌝ }
+    ensures { λ r. ⌜ PartsMeet room (now (body .entry)) at scope kind (now (table .entry)) (now (table .exit)) s (r .filled) (r .next) ⌝ }
+{
+    let next = at + 1;
+    match kind {
+        Kind::NoFormula => Gathered {
+            filled: s,
+            next: at,
+        },
+        Kind::Constant(_) => Gathered { filled: s, next },
+        Kind::Compare(_) => {
+            let o = opened(body, at, scope);
+            Gathered {
+                filled: s,
+                next: o.next,
+            }
+        }
+        Kind::Join(all) => {
+            let a = gather(body, next, scope, true, all, table, room, s);
+            let m = a.next;
+            let f = a.filled;
+            gather(body, m, scope, true, all, table, room, f)
+        }
+        Kind::Quantifier(all) => {
+            let range = evaluator::byte(body, next);
+            let there = at + 2;
+            gather_fold(body, there, scope, all, 0, range, table, room, s)
+        }
+        Kind::Instance => {
+            let i = evaluator::word_at(body, next, scope);
+            let f = add_word(table, room, s, i.word);
+            Gathered {
+                filled: f,
+                next: i.next,
+            }
+        }
+    }
+}
+
+// The same for a formula at the values x, x + 1, .. of a quantified variable, `more` of them.
+fn gather_fold(
+    body: &[u8],
+    at: usize,
+    scope: Scope,
+    all: bool,
+    x: u8,
+    more: u8,
+    table: &mut [u32],
+    room: usize,
+    s: Filled,
+) -> Gathered
+    requires { ⌜ (s .count ≤ room) × (room ≤ length (now table)) × (x + more ≤ 255) ⌝ }
+    ensures { λ r. ⌜ FoldGathers room (now (body .entry)) at scope all x more (now (table .entry)) (now (table .exit)) s (r .filled) (r .next) ⌝ }
+{
+    let inner = formulas::push(scope, x);
+    let a = gather(body, at, inner, true, all, table, room, s);
+    if more <= 1 {
+        return a;
+    }
+    let f = a.filled;
+    gather_fold(body, at, scope, all, x + 1, more - 1, table, room, f)
+}
+
+// Adds the instances that are left in the right side of the instance with the word w.
+fn gather_side(
+    bodies: &[u8],
+    equations: [Equation; 8],
+    w: u32,
+    table: &mut [u32],
+    room: usize,
+    s: Filled,
+) -> Filled
+    requires { ⌜ Ready (now bodies) equations w × (s .count ≤ room) × (room ≤ length (now table)) ⌝ }
+    ensures { λ r. ⌜ Kept room (now (table .entry)) (now (table .exit)) s r × (stock (now (table .exit)) r ≡ add room (stock (now (table .entry)) s) (words-left (left-in (now (bodies .entry)) equations w))) ⌝ }
+{
+    let e = (w / 65536) as usize;
+    let equation = equations[e];
+    let k = equation.k;
+    let first = e * 256;
+    let end = first + equation.length;
+    let scope = scope_of(w, k);
+    let a = gather(&bodies[first..end], 0, scope, false, false, table, room, s);
+    a.filled
+}
+
+// Finds the reached instances from the one with the word `start`, in order, at most `room` of them.
+fn find(
+    bodies: &[u8],
+    equations: [Equation; 8],
+    count: usize,
+    start: u32,
+    table: &mut [u32],
+    room: usize,
+) -> Filled
+    requires { ⌜ Searchable (now bodies) equations count start × (room ≤ length (now table)) ⌝ }
+    ensures { λ r. ⌜ Found (model-in (now (bodies .entry)) equations count) (instance-in equations start) room (now (table .entry)) (now (table .exit)) r ⌝ }
+{
+    if room == 0 {
+        return Filled {
+            count: 0,
+            over: true,
+        };
+    }
+    table[0] = start;
+    let mut found = 1;
+    let mut i = 0;
+    while i < found {
+        let w = table[i];
+        let s = Filled {
+            count: found,
+            over: false,
+        };
+        let r = gather_side(bodies, equations, w, table, room, s);
+        if r.over {
+            return r;
+        }
+        found = r.count;
+        i += 1;
+    }
+    Filled {
+        count: found,
+        over: false,
+    }
+}
+
+// ---- solving
+
+fn is_true(value: Value) -> bool
+    ensures { λ r. ⌜ r ≡ is-true value ⌝ }
+{
+    match value {
+        Value::False => false,
+        Value::True => true,
+        Value::Open => false,
+    }
+}
+
+// The right side of the instance with the word w.
+fn right_side(
+    bodies: &[u8],
+    equations: [Equation; 8],
+    w: u32,
+    table: &[u32],
+    truth: &[u64; 8],
+) -> Value
+    requires { ⌜ Ready (now bodies) equations w ⌝ }
+    ensures { λ r. ⌜ r ≡ side-of (now (bodies .entry)) equations (now (table .entry)) (bit-of (now (truth .entry))) w ⌝ }
+{
+    let e = (w / 65536) as usize;
+    let equation = equations[e];
+    let k = equation.k;
+    let first = e * 256;
+    let end = first + equation.length;
+    evaluator::evaluate(&bodies[first..end], scope_of(w, k), table, truth)
+}
+
+// Equation e's instances at b.
+fn start(table: &[u32], e: usize, b: bool, t: [u64; 8]) -> [u64; 8]
+    requires { ⌜ length (now table) ≤ 512 ⌝ }
+    ensures { λ r. ⌜ bit-of r ≡ filled (of-equation (now (table .entry)) e (length (now (table .entry)))) (always b) (bit-of t) ⌝ }
+{
+    let mut s = t;
+    let mut j: usize = 0;
+    while j < table.len() {
+        if (table[j] / 65536) as usize == e {
+            let u = truth::put(s, j, b);
+            s = u;
+        }
+        j += 1;
+    }
+    s
+}
+
+// Equation e's instances at their right sides in the set `inner`.
+fn step(
+    bodies: &[u8],
+    equations: [Equation; 8],
+    table: &[u32],
+    e: usize,
+    inner: [u64; 8],
+    current: [u64; 8],
+) -> [u64; 8]
+    requires { ⌜ AllReady (now bodies) equations (now table) ⌝ }
+    ensures { λ r. ⌜ bit-of r ≡ filled (of-equation (now (table .entry)) e (length (now (table .entry)))) (sides (now (bodies .entry)) equations (now (table .entry)) (bit-of inner)) (bit-of current) ⌝ }
+{
+    let mut s = current;
+    let mut j: usize = 0;
+    while j < table.len() {
+        let w = table[j];
+        if (w / 65536) as usize == e {
+            let value = right_side(bodies, equations, w, table, &inner);
+            let u = truth::put(s, j, is_true(value));
+            s = u;
+        }
+        j += 1;
+    }
+    s
+}
+
+// The equations from e on, solved in the set t: for each candidate of equation e the later ones anew.
+fn solve(
+    bodies: &[u8],
+    equations: [Equation; 8],
+    count: usize,
+    table: &[u32],
+    e: usize,
+    t: [u64; 8],
+) -> [u64; 8]
+    requires { ⌜ AllReady (now bodies) equations (now table) × (e ≤ count) × (count ≤ 8) ⌝ }
+    ensures { λ r. ⌜ bit-of r ≡ solved (numbered-system (now (bodies .entry)) equations (now (table .entry))) (count - e) e (bit-of t) ⌝ }
+{
+    if e == count {
+        return t;
+    }
+    let equation = equations[e];
+    let mut current = start(table, e, equation.sign == 1, t);
+    let mut turns: usize = 0;
+    while turns < table.len() {
+        let inner = solve(bodies, equations, count, table, e + 1, current);
+        let next = step(bodies, equations, table, e, inner, current);
+        if truth::same(next, current) {
+            return inner;
+        }
+        current = next;
+        turns += 1;
+    }
+    solve(bodies, equations, count, table, e + 1, current)
+}
+
+// All equations solved.
+fn solution_of(bodies: &[u8], equations: [Equation; 8], count: usize, table: &[u32]) -> [u64; 8]
+    requires { ⌜ AllReady (now bodies) equations (now table) × (count ≤ 8) ⌝ }
+    ensures { λ r. ⌜ bit-of r ≡ solved (numbered-system (now (bodies .entry)) equations (now (table .entry))) count 0 nowhere ⌝ }
+{
+    solve(bodies, equations, count, table, 0, truth::none())
+}
