@@ -1,7 +1,7 @@
 // Hexadecimal digits. The worth of every byte value comes from one table.
 ghost use mathlib.Core.Path.{_≡_};
 ghost use mathlib.Core.Bool.{_&&_};
-ghost use Prim.Native.Nat.{_<_};
+ghost use Prim.Native.Nat.{_<_, min};
 ghost use lib.ListN.{getD};
 ghost use Rattle.digits.specs.Digits.{worth-of, pair-of, byte-at, bytes-at, digit-of};
 
@@ -276,6 +276,12 @@ pub fn and(a: bool, b: bool) -> bool
     ensures { λ r. ⌜ r ≡ a && b ⌝ }
 {
     if a { b } else { false }
+}
+
+pub fn smaller(a: usize, b: usize) -> usize
+    ensures { λ r. ⌜ r ≡ min a b ⌝ }
+{
+    if a <= b { a } else { b }
 }
 
 // What a byte is worth as a digit; 255 where it is none.

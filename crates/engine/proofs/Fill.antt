@@ -1,7 +1,7 @@
 -- A set filled from instance 0 up: one turn of the loop puts instance j, or passes it.
 -- What is filled below j + 1 differs from what is filled below j at j alone.
 use mathlib.Core.Path.{_≡_, refl, sym, ap, _∙_, fun-ext}
-use mathlib.Core.Bool.{Bool, true, false, cond, _&&_}
+use mathlib.Core.Bool.{Bool, true, false, cond}
 use mathlib.Core.List.{List}
 use Prim.Native.Nat.{ℕ, _+_, _<_}
 use native.Mathlib.Decide.{ℕ-discrete, decLt}
@@ -43,7 +43,8 @@ module _ (table : List ℕ) (e : ℕ) (new old : Truths) where
   still-out j n = rw (lt-ltb j (j + 1) (omega arith), ne-eqb e (equation-of (getD table j 0)) (λ q. n (sym q)))
 
   -- an instance of the equation is put; f and r are the sets before and after
-  pub fill-more : (f r : Truths) (j : ℕ) (b : Bool) → r ≡ cond (ltb j 512) (updated f j b) f → j < 512 → b ≡ new j → equation-of (getD table j 0) ≡ e → f ≡ below j → r ≡ below (j + 1)
+  pub fill-more : (f r : Truths) (j : ℕ) (b : Bool) → r ≡ cond (ltb j 512) (updated f j b) f → j < 512 → b ≡ new j
+      → equation-of (getD table j 0) ≡ e → f ≡ below j → r ≡ below (j + 1)
   unfolding filled updated
   fill-more f r j b put l value q h = put ∙ rw (lt-ltb j 512 l, value) (fun-ext λ k. elim (ℕ-discrete k j) [
     | yes s ↦ rw (s, eq-eqb j j refl, now-in j q)

@@ -5,3 +5,5 @@ pub mod Decodes
 pub mod Adding
 pub mod Gathering
 pub mod Finding
+pub mod Examining
+pub mod Starting

@@ -1,6 +1,6 @@
 -- What the loop of `solve` computes is the definition's turns, whether it stops early or not.
 -- Once a turn changes nothing, no later one does.
-use mathlib.Core.Path.{_≡_, refl, sym, ap, _∙_}
+use mathlib.Core.Path.{_≡_, sym, ap, _∙_}
 use mathlib.Core.List.{List}
 use Prim.Native.Nat.{ℕ, zero, suc, _+_, _-_, _<_, _≤_}
 use native.Mathlib.Nat.{zero-add, suc-add, sub-zero}
@@ -62,7 +62,7 @@ stopped S count e k v current next r h le q n same s =
 
 -- ---- the tables of the code: the hypotheses are what the callees ensure
 
-module _ (bodies : List ℕ) (equations : List Equation) (table : List ℕ) (count e : ℕ) (v first : Truths) where
+module _ (bodies : List ℕ) (equations : List Equation) (table : List ℕ) (count e : ℕ) where
   abbrev S : Numbered
   S = numbered-system bodies equations table
 
@@ -77,7 +77,7 @@ module _ (bodies : List ℕ) (equations : List Equation) (table : List ℕ) (cou
   unfolding turned numbered-system
   turn-is current inner next q n = n ∙ ap (λ (x : Truths). filled own (sides bodies equations table x) current) q
 
-  module _ (h : e < count) (s : first ≡ filled own (always (eqb (equation-at equations e .sign) 1)) v) where
+  module _ (v first : Truths) (h : e < count) (s : first ≡ filled own (always (eqb (equation-at equations e .sign) 1)) v) where
     pub at-end : (current r : Truths) → current ≡ repeated (length table) turn first → r ≡ later S count e current → r ≡ solved S (count - e) e v
     unfolding started numbered-system is-greatest
     at-end current r q i = ended S count e v current r h (q ∙ ap (repeated (length table) turn) s) i

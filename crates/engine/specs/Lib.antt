@@ -9,3 +9,5 @@ pub mod Absorbed
 pub mod Kept
 pub mod Gathered
 pub mod Found
+pub mod DecodedModel
+pub mod Examined

@@ -1,11 +1,11 @@
 -- DEFINITIONS: the right sides of a table of words, and its instances as they are solved.
 -- An instance's right side is the value of its equation's decoded body, each instance in it being as true as its number in the set says.
-use Prim.Native.Nat.{ℕ, _/_, _%_, _*_, _≤_, _<_}
+use Prim.Native.Nat.{ℕ, _/_, _≤_, _<_}
 use mathlib.Core.Path.{_≡_}
 use mathlib.Core.Bool.{Bool, true, false, cond, _&&_}
-use mathlib.Core.List.{List, [], _∷_}
+use mathlib.Core.List.{List}
 use lib.Dec.{eqb, ltb}
-use lib.ListN.{length, take, getD}
+use lib.ListN.{length, getD}
 use Rattle.meaning.specs.Formulas.{Formula}
 use Rattle.meaning.specs.WordLaws.{arguments-of}
 use Rattle.formulas.specs.declared.Equation.{Equation}
@@ -15,7 +15,7 @@ use Rattle.evaluator.specs.declared.Value.{Value}
 use Rattle.evaluator.specs.declared.Value.the-variants.{False, True, Open}
 use Rattle.evaluator.specs.Values.{known, valued, index-of}
 use Rattle.engine.specs.Decoded.{equation-at, body-in}
-use Rattle.engine.specs.Solved.{Truths, Numbered}
+use Rattle.engine.specs.Solved.{Truths, filled, Numbered}
 
 -- the equation that a word names
 abbrev pub equation-of : ℕ → ℕ
@@ -47,6 +47,10 @@ sides bodies equations table v j = is-true (side-of bodies equations table v (ge
 -- the instances of equation e among the first n of a table
 unfoldable pub of-equation : List ℕ → ℕ → ℕ → Truths
 of-equation table e n j = ltb j n && eqb e (equation-of (getD table j 0))
+
+-- `new` at equation e's instances of a table, `old` at the others
+abbrev pub set-equation : List ℕ → ℕ → (new old : Truths) → Truths
+set-equation table e new old = filled (of-equation table e (length table)) new old
 
 unfoldable pub is-greatest : List Equation → ℕ → Bool
 is-greatest equations e = eqb (equation-at equations e .sign) 1

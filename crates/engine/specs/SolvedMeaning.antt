@@ -1,23 +1,23 @@
 -- The reached instances of a well-formed model, solved by turns, have their meaning.
 -- The right side of a reached instance hangs on reached instances alone, and each of these is found in the table by its word.
-use Prim.Native.Nat.{ℕ, zero, suc, _+_, _*_, _/_, _≤_, _<_}
+use Prim.Native.Nat.{ℕ, zero, suc, _+_, _≤_, _<_}
 use native.Mathlib.Decide.{decLt}
 use native.Mathlib.Omega.{arith}
-use mathlib.Core.Path.{_≡_, refl, sym, subst, _∙_, ap, ap₂, fun-ext}
-use mathlib.Core.Bool.{Bool, true, false, cond, _&&_}
+use mathlib.Core.Path.{_≡_, refl, sym, subst, _∙_, ap, fun-ext}
+use mathlib.Core.Bool.{Bool, true, false, cond}
 use mathlib.Core.List.{List, [], _∷_, map}
-use mathlib.Core.Logic.{_⊎_, inl, inr, ⊎-elim}
+use mathlib.Core.Logic.{_⊎_, inl, inr}
 use lib.ListN.{length, length-map, getD, List·getD-map, List·getD-eq-default}
-use lib.Dec.{eqb, ltb, ltb→lt}
-use borrow.Author.Tests.{eq-eqb, ne-eqb, lt-ltb, le-ltb, eqb-true}
+use lib.Dec.{eqb, ltb→lt}
+use borrow.Author.Tests.{eq-eqb, lt-ltb, le-ltb, eqb-true}
 use Rattle.meaning.specs.Logic.{Is, never, Is→T, eq→Is, and-l}
-use Rattle.meaning.specs.Solution.{Args, Set, Assign, mem, solution}
+use Rattle.meaning.specs.Solution.{Args, Assign, mem}
 use Rattle.meaning.specs.Formulas.{Formula, constant, holds}
 use Rattle.meaning.specs.Models.{ModelEquation, Model, system, nowhere, meaning}
-use Rattle.meaning.specs.Reach.{Instance, simplified, instances, body-of, next, reached}
+use Rattle.meaning.specs.Reach.{Instance, body-of, next, reached}
 use Rattle.meaning.specs.Ranges.{signatures, typed, well-formed}
 use Rattle.meaning.specs.Words.{word}
-use Rattle.meaning.specs.Members.{mem-head, mem-tail, mem-cases, mem-nothing}
+use Rattle.meaning.specs.Members.{mem-cases, mem-nothing}
 use Rattle.meaning.specs.Systems.{AllRising}
 use Rattle.meaning.specs.Monotone.{system-rising}
 use Rattle.meaning.specs.Typed.{well-formed-count, ranges-count, signatures-length}
@@ -26,11 +26,12 @@ use Rattle.meaning.specs.Reached.{reached-closed, reached-typed}
 use Rattle.meaning.specs.Solving.{table-value}
 use Rattle.meaning.specs.WordLaws.{arguments-of, typed-length, word-equation, word-arguments, word-injective}
 use Rattle.truth.specs.Bits as sets
+use Rattle.truth.specs.Words.{truth-words}
+use Rattle.truth.proofs.Bits.{Eight}
+use Rattle.truth.proofs.Words.{truth-words-unique}
 use Rattle.formulas.specs.declared.Equation.{Equation}
-use Rattle.formulas.specs.Decode.{Parsed, some, formula-at}
+use Rattle.formulas.specs.Decode.{some, formula-at}
 use Rattle.formulas.specs.Bodies.{found}
-use Rattle.evaluator.specs.declared.Value.{Value}
-use Rattle.evaluator.specs.declared.Value.the-variants.{False, True, Open}
 use Rattle.evaluator.specs.Values.{known, valued, index-of}
 use Rattle.evaluator.proofs.Settled.{truth-at, Knows, settled}
 use Rattle.engine.specs.Decoded.{equation-at, body-in}
@@ -93,7 +94,7 @@ known-true : (b : Bool) → is-true (known b) ≡ b
 known-true true = refl
 known-true false = refl
 
-body-getD : (model : Model) (e : ℕ) → body-of model e ≡ getD model e no-equation .body
+pub body-getD : (model : Model) (e : ℕ) → body-of model e ≡ getD model e no-equation .body
 unfolding body-of
 body-getD [] e = refl
 body-getD (m ∷ ms) zero = refl
@@ -225,4 +226,12 @@ module _ (model : Model) (start : Instance) (w : Is (well-formed model start))
 
   -- and the code may look at each word of the table
   pub all-ready : 2048 ≤ length bodies → length l ≤ 512 → AllReady bodies equations table
-  all-ready whole room = record { long = omega (arith, length-map l word); each = λ j h. instance-at j (omega (arith, length-map l word)) (λ i. Ready bodies equations (getD table j 0)) (λ e x q. ready whole j e x q) }
+  all-ready whole room = record {
+    long = omega (arith, length-map l word);
+    each = λ j h. instance-at j (omega (arith, length-map l word)) (λ i. Ready bodies equations (getD table j 0)) (ready whole j);
+  }
+
+  -- eight words that say what the set says are the words of the values
+  pub solved-words : (value : Instance → Bool) → ((e : ℕ) (x : Args) → value (e ∷ x) ≡ meaning model e x) → (r : List ℕ) → Eight r
+      → sets.bit-of r ≡ solved S (length model) 0 sets.nowhere → r ≡ truth-words (map value l)
+  solved-words value f r h q = truth-words-unique r (map value l) h (λ j _. ap (λ (v : Truths). v j) (q ∙ solved-values value f))

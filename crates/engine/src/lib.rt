@@ -10,15 +10,24 @@ ghost use Rattle.formulas.specs.Codes.{kind-of};
 ghost use Rattle.formulas.specs.Scopes.{seen, pushed};
 ghost use Rattle.engine.specs.Gathered.{settled, is-open, GatherMeets, PartsMeet, FoldGathers, OpenMeets, words-left};
 ghost use Rattle.meaning.specs.WordLaws.{arguments-of};
-ghost use Rattle.engine.specs.Sides.{Ready, is-true, side-of, sides, of-equation, numbered-system, AllReady};
+ghost use Rattle.engine.specs.Sides.{Ready, is-true, side-of, sides, set-equation, numbered-system, AllReady};
 ghost use Rattle.engine.specs.Found.{model-in, instance-in, left-in, Searchable, Found};
 ghost use Rattle.truth.specs.Bits.{bit-of, nowhere};
 ghost use Rattle.engine.specs.Decoded.{Decoded};
-ghost use Rattle.engine.specs.Solved.{filled, always, solved};
+ghost use Rattle.engine.specs.Solved.{always, solved};
+ghost use Rattle.meaning.specs.Words.{word};
+ghost use Rattle.reading.specs.Reading.{reading};
+ghost use Rattle.truth.specs.Bits.{count-below};
+ghost use Rattle.answers.specs.declared.Answer.{Answer};
+ghost use Rattle.answers.specs.Answers.{answer, judged, refusal, room-of, bit, kept-words, table-after};
+ghost use Rattle.engine.specs.Examined.{Judged};
+use answers::Answer;
 use evaluator::Value;
 use formulas::Equation;
 use formulas::Kind;
 use formulas::Scope;
+use reading::Model;
+use reading::Start;
 
 // The bodies of a model's equations as bytes: that of equation e from e * 256 on.
 fn decode(text: &[u8], equations: [Equation; 8]) -> [u8; 2048]
@@ -343,7 +352,7 @@ fn right_side(
 // Equation e's instances at b.
 fn start(table: &[u32], e: usize, b: bool, t: [u64; 8]) -> [u64; 8]
     requires { ⌜ length (now table) ≤ 512 ⌝ }
-    ensures { λ r. ⌜ bit-of r ≡ filled (of-equation (now (table .entry)) e (length (now (table .entry)))) (always b) (bit-of t) ⌝ }
+    ensures { λ r. ⌜ bit-of r ≡ set-equation (now (table .entry)) e (always b) (bit-of t) ⌝ }
 {
     let mut s = t;
     let mut j: usize = 0;
@@ -367,7 +376,7 @@ fn step(
     current: [u64; 8],
 ) -> [u64; 8]
     requires { ⌜ AllReady (now bodies) equations (now table) ⌝ }
-    ensures { λ r. ⌜ bit-of r ≡ filled (of-equation (now (table .entry)) e (length (now (table .entry)))) (sides (now (bodies .entry)) equations (now (table .entry)) (bit-of inner)) (bit-of current) ⌝ }
+    ensures { λ r. ⌜ bit-of r ≡ set-equation (now (table .entry)) e (sides (now (bodies .entry)) equations (now (table .entry)) (bit-of inner)) (bit-of current) ⌝ }
 {
     let mut s = current;
     let mut j: usize = 0;
@@ -419,4 +428,114 @@ fn solution_of(bodies: &[u8], equations: [Equation; 8], count: usize, table: &[u
     ensures { λ r. ⌜ bit-of r ≡ solved (numbered-system (now (bodies .entry)) equations (now (table .entry))) count 0 nowhere ⌝ }
 {
     solve(bodies, equations, count, table, 0, truth::none())
+}
+
+// ---- a whole text
+
+// What a text gives: the answer, and the model that was read.
+pub struct Examined {
+    pub answer: Answer,
+    pub model: Model,
+}
+
+// The room of a table of so many words.
+fn room_of(words: usize) -> usize
+    ensures { λ r. ⌜ r ≡ room-of words ⌝ }
+{
+    if words <= 512 { words } else { 512 }
+}
+
+fn refuse(number: u8, line: usize) -> Answer
+    ensures { λ r. ⌜ r ≡ refusal number line ⌝ }
+{
+    Answer {
+        number,
+        line,
+        verdict: 0,
+        reached: 0,
+        trues: 0,
+        truth: [0; 8],
+    }
+}
+
+fn bit_of(b: bool) -> u8
+    ensures { λ r. ⌜ r ≡ bit b ⌝ }
+{
+    if b { 1 } else { 0 }
+}
+
+// The verdict over n instances of which the set has the true ones: that of the first.
+fn judge(n: usize, truth: [u64; 8]) -> Answer
+    ensures { λ r. ⌜ r ≡ record { number = 0; line = 0; verdict = bit (bit-of truth 0); reached = n; trues = count-below 512 (bit-of truth); truth = truth } ⌝ }
+{
+    let first = truth::has(truth, 0);
+    let trues = truth::count(truth);
+    Answer {
+        number: 0,
+        line: 0,
+        verdict: bit_of(first),
+        reached: n,
+        trues,
+        truth,
+    }
+}
+
+// Argument i of a start; 0 for an absent one.
+fn argument(s: Start, i: usize) -> u32
+    requires { ⌜ i < 4 ⌝ }
+    ensures { λ r. ⌜ (r ≡ getD (take (s .count) (s .arguments)) i 0) × (r < 256) ⌝ }
+{
+    if i < s.count {
+        s.arguments[i] as u32
+    } else {
+        0
+    }
+}
+
+// The word of a start.
+fn start_word(s: Start) -> u32
+    ensures { λ r. ⌜ r ≡ word (s .equation ∷ take (s .count) (s .arguments)) ⌝ }
+{
+    let p0 = argument(s, 0);
+    let p1 = argument(s, 1);
+    let p2 = argument(s, 2);
+    let p3 = argument(s, 3);
+    let e = s.equation as u32;
+    e * 65536 + p0 * 4096 + p1 * 256 + p2 * 16 + p3
+}
+
+// The answer for a model that was read.
+fn examine_model(text: &[u8], model: Model, table: &mut [u32]) -> Answer
+    requires { ⌜ (reading (now text) .number ≡ 0) × (model ≡ reading (now text) .model) ⌝ }
+    ensures { λ r. ⌜ Judged (now (text .entry)) (now (table .entry)) (now (table .exit)) r ⌝ }
+{
+    let room = room_of(table.len());
+    let equations = model.equations;
+    let count = model.count;
+    let s = model.start;
+    let start = start_word(s);
+    let bodies = decode(text, equations);
+    let found = find(&bodies, equations, count, start, table, room);
+    if found.over {
+        return refuse(9, 0);
+    }
+    let n = found.count;
+    let truth = solution_of(&bodies, equations, count, &table[..n]);
+    judge(n, truth)
+}
+
+// The whole check of a text with a lent table.
+pub fn examine(text: &[u8], table: &mut [u32]) -> Examined
+    ensures { λ r. ⌜ (r .answer ≡ answer (now (text .entry)) (length (now (table .entry)))) × (r .model ≡ reading (now (text .entry)) .model) × (now (table .exit) ≡ table-after (now (text .entry)) (now (table .entry))) ⌝ }
+{
+    let r = reading::read_model(text);
+    let number = r.number;
+    let line = r.line;
+    let model = r.model;
+    if number != 0 {
+        let a = refuse(number, line);
+        return Examined { answer: a, model };
+    }
+    let a = examine_model(text, model, table);
+    Examined { answer: a, model }
 }

@@ -47,10 +47,6 @@ told-join false (left l) (left k) = refl
 abbrev Tells : Value → Simplified → Bool → Type 0
 Tells x s b = x ≡ told s
 
--- the truth of the instances is of no account here
-abbrev no-truth : Assign
-no-truth e x = false
-
 pub open-valued : (f : Formula) (σ : ℕ → Value) → ((w : ℕ) → σ w ≡ Open) → (v : List ℕ) → valued f σ v ≡ told (simplified f v)
 unfolding valued simplified
 open-valued (constant b) σ h v = refl

@@ -4,10 +4,9 @@ use Prim.Native.Nat.{ℕ, zero, suc, _+_, _-_, _≤_, _<_}
 use native.Mathlib.Omega.{arith}
 use mathlib.Core.Path.{_≡_, refl, sym, ap, _∙_}
 use mathlib.Core.Bool.{Bool, true, false, _&&_}
-use mathlib.Core.List.{List, [], _∷_, _++_, map}
+use mathlib.Core.List.{List, [], _∷_, _++_}
 use lib.Dec.{ltb, leb}
-use lib.ListN.{length, getD, take, drop, length-map, List·getD-map}
-use lib.Seq.{length-take-le, getD-take}
+use lib.ListN.{length, getD}
 use borrow.Author.Tests.{ltb-true, lt-ltb, le-ltb, le-leb, lt-leb}
 use Rattle.meaning.specs.Logic.{_and_}
 use Rattle.meaning.specs.Formulas.{Term, Formula}
@@ -20,21 +19,17 @@ use Rattle.formulas.specs.Decode.{in-row, nth-formula, terms-at, formula
 use Rattle.formulas.specs.Shapes.{operands-join, operands-quantifier}
 use Rattle.formulas.specs.Bodies.{blank, ranges-of, signatures-of}
 use Rattle.formulas.specs.Contract.{Told, refused, told, all-fit, instance-from}
+use Rattle.formulas.proofs.Bodies.{signatures-length, signature-at}
 use Rattle.formulas.proofs.Told.{and-same, and-true, told-then, told-stop, told-last, told-when, told-unless, deep}
 
 -- ---- an instance
 module _ (equations : List Equation) (count : ℕ) (c : count ≤ length equations) where
-  known : length (signatures-of equations count) ≡ count
-  known = length-map (take count equations) ranges-of ∙ length-take-le count equations c
-
   named : (x : ℕ) (ps : List ℕ) (ts : List Term) (rs : List ℕ) (b : Bool) → ltb x count ≡ b → (x < count → ps ≡ ranges-of (getD equations x blank))
       → b && arguments-fit ts ps rs ≡ b and arguments-fit ts (getD (signatures-of equations count) x []) rs
   unfolding _and_
   named x ps ts rs true h f =
       let l : x < count = ltb-true x count h in
-      let g : getD (signatures-of equations count) x [] ≡ ranges-of (getD equations x blank) =
-      List·getD-map ranges-of (take count equations) x blank ∙ ap ranges-of (getD-take count equations x blank l) in
-      rw (f l, g) refl
+      rw (f l, signature-at equations count x l) refl
   named x ps ts rs false h f = refl
 
   module _ (n : ℕ) (s : List ℕ) (k at first : ℕ) (rs : List ℕ) {e : ℕ} {v : Bool} where
@@ -46,7 +41,7 @@ module _ (equations : List Equation) (count : ℕ) (c : count ≤ length equatio
         → Told (λ f. fits (signatures-of equations count) f rs) v e (instance-from n s k at first) ok
     unfolding fits
     told-instance-arguments ps {x} ex ea l f g z =
-        rw (← ex, ← ea) (told-when _ (le-leb _ _ l) (told-last _ g (λ ts w′. z ∙ rw (w′, known) (named x ps ts rs (ltb x count) refl f))))
+        rw (← ex, ← ea) (told-when _ (le-leb _ _ l) (told-last _ g (λ ts w′. z ∙ rw (w′, signatures-length equations count c) (named x ps ts rs (ltb x count) refl f))))
 
 -- ---- formulas in a row
 module _ (sigs : List (List ℕ)) (rs : List ℕ) where

@@ -2,3 +2,4 @@ pub mod Told
 pub mod Terms
 pub mod Laws
 pub mod Bodies
+pub mod Decoded

@@ -354,19 +354,13 @@ fn read_terms(
     }
 }
 
-fn smaller(a: usize, b: usize) -> usize
-    ensures { λ r. ⌜ (a ≤ b → r ≡ a) × (b ≤ a → r ≡ b) ⌝ }
-{
-    if a <= b { a } else { b }
-}
-
 // The ranges of an equation's parameters.
 fn signature_of(e: Equation) -> Scope
     ensures { λ r. ⌜ (seen r ≡ ranges-of e) × ((r .count ≡ length (ranges-of e)) × (r .count ≤ 4)) ⌝ }
 {
     let r = e.ranges;
     let values = [r[0], r[1], r[2], r[3], 0, 0, 0, 0];
-    let count = smaller(digits::wide(e.k), 4);
+    let count = digits::smaller(digits::wide(e.k), 4);
     Scope { values, count }
 }
 
@@ -528,7 +522,7 @@ fn read_body(text: &[u8], e: Equation, equations: [Equation; 8], count: usize) -
         return no_span(0);
     }
     let scope = signature_of(e);
-    let known = smaller(count, 8);
+    let known = digits::smaller(count, 8);
     read_formula(text, place, size, 0, scope, 0, equations, known)
 }
 

@@ -1,7 +1,7 @@
 // A set of at most 512 instances, in eight words: instance j is bit j % 64 of word j / 64.
 ghost use mathlib.Core.Path.{_≡_};
 ghost use mathlib.Core.Bool.{cond};
-ghost use Prim.Native.Nat.{ℕ, _≤_};
+ghost use Prim.Native.Nat.{_≤_};
 ghost use lib.Dec.{ltb};
 ghost use Rattle.truth.specs.Bits.{bit-of, updated, nowhere, same-below, count-below};
 

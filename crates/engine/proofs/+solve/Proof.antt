@@ -1,13 +1,13 @@
 -- The proof of the cycle of calls {solve}: the measure is the number of equations left.
 -- The loop's invariant: so many turns were made.
 use mathlib.Core.Path.{_≡_, refl, sym, ap, _∙_}
-use Prim.Native.Nat.{ℕ, _+_, _-_, _<_, _≤_}
+use Prim.Native.Nat.{ℕ, _-_, _<_, _≤_}
 use native.Mathlib.Omega.{arith}
 use lib.ListN.{length}
 use Rattle.truth.specs.Bits.{bit-of}
 use Rattle.truth.proofs.Bits.{same-bits}
 use Rattle.engine.specs.Solved.{repeated, turned}
-use Rattle.engine.specs.Sides.{numbered-system, AllReady}
+use Rattle.engine.specs.Sides.{numbered-system}
 use Rattle.engine.proofs.Turns.{one-more, solved-none, later, turn-is, at-end, at-stop}
 use borrow.Author.Needs.{needs}
 use borrow.Fn.Kinds.{In}
@@ -72,10 +72,12 @@ solve-same-requires t c κs = tt
 
 solve-returns-2 : (t : ℕ) → solve-lts.Need-returns-2 (calls t) (solve-at t) solve.Post solve-Inv-loop solve-μ-loop
 solve-returns-2 t c =
-    let a = c .before .before .before .before .before .before .before .before .before .before .before .before .args in
-    let same = same-bits (c .before .before .step .result) (c .before .before .before .before .before .loop .current) (search needs) (c .before .before .before .before .before .loop .inv .2) (sym (c .before .same .ensures) ∙ c .if2 .taken) in
-    at-stop (a .bodies .now) (a .t2) (a .table .now) (a .count) (a .e) (bit-of (a .t)) _ (omega arith) (c .before .before .before .before .before .before .start .ensures) (c .before .before .before .before .before .loop .turns) _ _ _
-    (c .before .before .before .before .before .loop .inv .0) (c .before .before .before .before .before .loop .inv .1) (c .before .before .before .solve .ensures) (c .before .before .step .ensures) same
+    let made = c .before .before .before .before .before in
+    let a = made .before .before .before .before .before .before .before .args in
+    let next = c .before .before .step in
+    let same = same-bits (next .result) (made .loop .current) (search needs) (made .loop .inv .2) (sym (c .before .same .ensures) ∙ c .if2 .taken) in
+    at-stop (a .bodies .now) (a .t2) (a .table .now) (a .count) (a .e) (bit-of (a .t)) _ (omega arith) (made .before .start .ensures)
+    (made .loop .turns) _ _ _ (made .loop .inv .0) (made .loop .inv .1) (c .before .before .before .solve .ensures) (next .ensures) same
 
 solve-add-turns : (t : ℕ) → solve-lts.Need-add-turns (calls t) (solve-at t) solve.Post solve-Inv-loop solve-μ-loop
 solve-add-turns t c = omega arith
@@ -85,10 +87,11 @@ solve-loop-less t c = omega arith
 
 solve-loop-again : (t : ℕ) → solve-lts.Need-loop-again (calls t) (solve-at t) solve.Post solve-Inv-loop solve-μ-loop
 solve-loop-again t c =
-    let a = c .before .before .before .before .before .before .before .before .before .before .before .before .args in (
+    let made = c .before .before .before .before .before in
+    let a = made .before .before .before .before .before .before .before .args in (
       omega arith,
-      turn-is (a .bodies .now) (a .t2) (a .table .now) (a .count) (a .e) (bit-of (a .t)) (bit-of (a .t)) _ _ _ (c .before .before .before .solve .ensures) (c .before .before .step .ensures)
-          ∙ ap (turned _ _ _) (c .before .before .before .before .before .loop .inv .1) ∙ one-more _ _ _,
+      turn-is (a .bodies .now) (a .t2) (a .table .now) (a .count) (a .e) _ _ _ (c .before .before .before .solve .ensures) (c .before .before .step .ensures)
+          ∙ ap (turned _ _ _) (made .loop .inv .1) ∙ one-more _ _ _,
       search needs,
     )
 

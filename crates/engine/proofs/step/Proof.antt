@@ -1,13 +1,13 @@
 -- `engine::step` meets its contract.
 -- The instances below j are filled with their right sides; each turn puts instance j, or passes it.
 use mathlib.Core.Logic.{⊎-elim}
-use mathlib.Core.Path.{_≡_, refl, ap, _∙_}
-use Prim.Native.Nat.{ℕ, _+_, _-_, _≤_, _<_}
+use mathlib.Core.Path.{_≡_, ap, _∙_}
+use Prim.Native.Nat.{_-_, _≤_}
 use native.Mathlib.Omega.{arith}
 use lib.ListN.{length}
 use Rattle.truth.specs.Bits.{bit-of}
 use Rattle.engine.specs.Solved.{filled}
-use Rattle.engine.specs.Sides.{is-true, sides, of-equation, AllReady}
+use Rattle.engine.specs.Sides.{is-true, sides, of-equation}
 use Rattle.engine.proofs.Fill.{fill-none, fill-more, fill-skip}
 use Rattle.engine.proofs.step.Statement.{statement}
 use Rattle.engine.proofs.step.Tie as tie

@@ -3,7 +3,7 @@
 use mathlib.Core.Path.{_≡_}
 use lib.ListN.{length}
 use Rattle.digits.proofs.Bytes.{length-bytes}
-use Rattle.formulas.proofs.Bodies.{take-most, body-long, body-read}
+use Rattle.formulas.proofs.Bodies.{body-long, body-read}
 use borrow.Author.Needs.{needs}
 use native.Mathlib.Omega.{arith}
 use Rattle.formulas.proofs.read_body.Statement.{statement}
@@ -24,17 +24,13 @@ smaller-requires : tie.Need-smaller-requires
 smaller-requires c κs = search needs
 
 read-formula-requires : tie.Need-read-formula-requires
-read-formula-requires c κs =
-    let a = c .before .before .before .before .args in
-    let g : length (a .equations) ≡ 8 = search needs in
-    let m = take-most (a .equations) 8 (a .count) (c .smaller .result) g (c .smaller .ensures .0) (c .smaller .ensures .1) in
-    omega (arith, c .before .signature-of .ensures .1 .1, m .1 .1)
+read-formula-requires c κs = omega (arith, c .before .signature-of .ensures .1 .1, c .smaller .ensures)
 
 returns-2 : tie.Need-returns-2
 returns-2 c =
     let a = c .before .before .before .before .before .args in
     let g : length (a .equations) ≡ 8 = search needs in
-    body-read (a .text .now) (a .e) (a .equations) (a .count) (c .before .before .before .if1 .left) g (c .before .smaller .ensures .0) (c .before .smaller .ensures .1) (c .before .before .signature-of .ensures .0) (c .before .before .signature-of .ensures .1 .0)
+    body-read (a .text .now) (a .e) (a .equations) (a .count) (c .before .before .before .if1 .left) g (c .before .smaller .ensures) (c .before .before .signature-of .ensures .0) (c .before .before .signature-of .ensures .1 .0)
     (c .read-formula .ensures .tells (a .e .length) (omega (arith, length-bytes (a .text .now) (a .e .place) (a .e .length))))
 
 pub read-body-spec : {M : Type 1} → statement M

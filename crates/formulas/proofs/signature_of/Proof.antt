@@ -1,6 +1,7 @@
 -- `formulas::signature_of` meets its contract.
 -- The first ranges, at most the four that there are.
-use mathlib.Core.Path.{_≡_}
+use Prim.Native.Nat.{ℕ, min}
+use mathlib.Core.Path.{_≡_, ap, _∙_}
 use mathlib.Core.List.{_∷_, []}
 use lib.ListN.{length}
 use Rattle.formulas.proofs.Bodies.{signature}
@@ -30,8 +31,7 @@ returns : tie.Need-returns
 returns c =
     let a = c .before .before .before .args in
     let n : length (a .e .ranges) ≡ 4 = search needs in
-    let s = rw (c .before .wide .ensures .0) at (c .smaller .ensures) in
-    signature (a .e .ranges) (0 ∷ 0 ∷ 0 ∷ 0 ∷ []) (a .e .k) (c .smaller .result) n (s .0) (s .1)
+    signature (a .e .ranges) (0 ∷ 0 ∷ 0 ∷ 0 ∷ []) (a .e .k) (c .smaller .result) n (c .smaller .ensures ∙ ap (λ (x : ℕ). min x 4) (c .before .wide .ensures .0))
 
 pub signature-of-spec : {M : Type 1} → statement M
 signature-of-spec =

@@ -1,0 +1,12 @@
+// What comes back for a text: the struct of every answer. Its definitions and the theorems over them stand in specs/.
+
+// Number and line are 0 on a verdict; on a refusal everything else is 0. verdict: 1 holds, 0 fails.
+// reached and trues count the reached instances and those of them that are true; truth has instance j as bit j % 64 of word j / 64.
+pub struct Answer {
+    pub number: u8,
+    pub line: usize,
+    pub verdict: u8,
+    pub reached: usize,
+    pub trues: usize,
+    pub truth: [u64; 8],
+}

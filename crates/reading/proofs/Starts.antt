@@ -1,0 +1,108 @@
+-- The four ranges of a head, and a start's arguments below the ranges of its equation.
+-- The four tests of the code are the tests on lists, computed for each number of parameters.
+use Prim.Native.Nat.{ℕ, zero, suc, _≤_, _<_, min}
+use native.Mathlib.Omega.{arith}
+use mathlib.Core.Path.{_≡_, refl, sym, ap, subst}
+use mathlib.Core.Bool.{Bool, true, false, cond, _&&_}
+use mathlib.Core.List.{List, [], _∷_}
+use lib.Dec.{eqb, ltb, leb}
+use lib.ListN.{length, getD, take, length-take}
+use borrow.Author.Tests.{le-leb, leb-true, lt-ltb, le-ltb, eqb-true, eqb-false}
+use Rattle.meaning.specs.Logic.{_and_}
+use Rattle.meaning.specs.Ranges.{is-range, all-ranges, within, typed}
+use Rattle.formulas.specs.Bodies.{blank, ranges-of}
+use Rattle.formulas.proofs.Bodies.{take-most, signatures-length, signature-at}
+use Rattle.reading.specs.declared.Model.{Model}
+use Rattle.reading.specs.Models.{start-right}
+
+four-tests : (p q r s : Bool) → p && (q && (r && s)) ≡ p and (q and (r and (s and true)))
+unfolding _and_
+four-tests false q r s = refl
+four-tests true false r s = refl
+four-tests true true false s = refl
+four-tests true true true false = refl
+four-tests true true true true = refl
+
+pub four-ranges : (l : List ℕ) → length l ≡ 4 → is-range (getD l 0 0) && (is-range (getD l 1 0) && (is-range (getD l 2 0) && is-range (getD l 3 0))) ≡ all-ranges l
+unfolding all-ranges
+four-ranges [] h = absurd (omega arith)
+four-ranges (a ∷ []) h = absurd (omega arith)
+four-ranges (a ∷ b ∷ []) h = absurd (omega arith)
+four-ranges (a ∷ b ∷ c ∷ []) h = absurd (omega arith)
+four-ranges (a ∷ b ∷ c ∷ d ∷ []) h = four-tests (is-range a) (is-range b) (is-range c) (is-range d)
+four-ranges (a ∷ b ∷ c ∷ d ∷ e ∷ l) h = absurd (omega arith)
+
+-- the test of argument i, where the equation has so many parameters
+abbrev asked : ℕ → List ℕ → List ℕ → ℕ → Bool
+asked n x rs i = cond (ltb i n) (ltb (getD x i 0) (getD rs i 0)) true
+
+abbrev asked-four : ℕ → List ℕ → List ℕ → Bool
+asked-four n x rs = asked n x rs 0 && (asked n x rs 1 && (asked n x rs 2 && asked n x rs 3))
+
+abbrev first-four : List ℕ → List ℕ
+first-four l = getD l 0 0 ∷ getD l 1 0 ∷ getD l 2 0 ∷ getD l 3 0 ∷ []
+
+all-four : (l : List ℕ) → length l ≡ 4 → first-four l ≡ l
+all-four [] h = absurd (omega arith)
+all-four (a ∷ []) h = absurd (omega arith)
+all-four (a ∷ b ∷ []) h = absurd (omega arith)
+all-four (a ∷ b ∷ c ∷ []) h = absurd (omega arith)
+all-four (a ∷ b ∷ c ∷ d ∷ []) h = refl
+all-four (a ∷ b ∷ c ∷ d ∷ e ∷ l) h = absurd (omega arith)
+
+module _ (a b c d p q r s : ℕ) where
+  same-number : (n : ℕ) → n ≤ 4 → asked-four n (a ∷ b ∷ c ∷ d ∷ []) (p ∷ q ∷ r ∷ s ∷ []) ≡ within (take n (a ∷ b ∷ c ∷ d ∷ [])) (take n (p ∷ q ∷ r ∷ s ∷ []))
+  unfolding within _and_
+  same-number zero h = refl
+  same-number (suc zero) h = four-tests (ltb a p) true true true
+  same-number (suc (suc zero)) h = four-tests (ltb a p) (ltb b q) true true
+  same-number (suc (suc (suc zero))) h = four-tests (ltb a p) (ltb b q) (ltb c r) true
+  same-number (suc (suc (suc (suc zero)))) h = four-tests (ltb a p) (ltb b q) (ltb c r) (ltb d s)
+  same-number (suc (suc (suc (suc (suc n))))) h = absurd (omega arith)
+
+and-false : (b : Bool) → b and false ≡ false
+unfolding _and_
+and-false true = refl
+and-false false = refl
+
+&&-false : (b : Bool) → b && false ≡ false
+&&-false true = refl
+&&-false false = refl
+
+within-length : (x rs : List ℕ) → (length x ≡ length rs → ⊥) → within x rs ≡ false
+unfolding within
+within-length [] [] h = absurd (h refl)
+within-length [] (r ∷ rs) h = refl
+within-length (a ∷ x) [] h = refl
+within-length (a ∷ x) (r ∷ rs) h = rw (within-length x rs (λ e. h (ap suc e))) (and-false (ltb a r))
+
+-- n arguments, of which the first four are x, for k parameters, of which the first four have the ranges rs
+module _ (n k m : ℕ) (x rs : List ℕ) (hx : length x ≡ 4) (hr : length rs ≡ 4) (e : m ≡ min k 4) where
+  same : (i : ℕ) → i ≤ 4 → asked-four i x rs ≡ within (take i x) (take i rs)
+  same i h =
+      subst (λ (l : List ℕ). asked-four i l rs ≡ within (take i l) (take i rs)) (all-four x hx)
+      (subst (λ (l : List ℕ). asked-four i (first-four x) l ≡ within (take i (first-four x)) (take i l)) (all-four rs hr)
+      (same-number (getD x 0 0) (getD x 1 0) (getD x 2 0) (getD x 3 0) (getD rs 0 0) (getD rs 1 0) (getD rs 2 0) (getD rs 3 0) i h))
+
+  wrong-number : (b : Bool) → leb n 4 ≡ b → (n ≡ m → ⊥) → b && within (take n x) (take k rs) ≡ false
+  wrong-number true l h = within-length (take n x) (take k rs) (λ q. h (omega (arith, leb-true n 4 l, length-take n x, length-take k rs, q, hx, hr, e)))
+  wrong-number false l h = refl
+
+  judged : (b : Bool) → eqb n m ≡ b → b && asked-four m x rs ≡ leb n 4 && within (take n x) (take k rs)
+  judged true h =
+      let q : n ≡ m = eqb-true n m h in
+      rw (q, le-leb m 4 (omega (arith, e)), ← take-most rs k 4 hr (leb k 4) refl, ← e) (same m (omega (arith, e)))
+  judged false h = sym (wrong-number (leb n 4) refl (eqb-false n m h))
+
+  pub arguments-judged : eqb n m && asked-four m x rs ≡ leb n 4 && within (take n x) (take k rs)
+  arguments-judged = judged (eqb n m) refl
+
+-- the start's equation
+module _ (m : Model) (l : m .count ≤ length (m .equations)) {i : ℕ} (e : i ≡ m .start .equation) where
+  pub start-unnamed : m .count ≤ i → false ≡ start-right m
+  unfolding start-right typed _and_
+  start-unnamed h = rw (signatures-length (m .equations) (m .count) l, ← e, le-ltb i (m .count) h) (sym (&&-false (leb (m .start .count) 4)))
+
+  pub start-named : {r : Bool} → i < m .count → r ≡ leb (m .start .count) 4 && within (take (m .start .count) (m .start .arguments)) (ranges-of (getD (m .equations) i blank)) → r ≡ start-right m
+  unfolding start-right typed _and_
+  start-named h f = rw (signatures-length (m .equations) (m .count) l, ← e, lt-ltb i (m .count) h, signature-at (m .equations) (m .count) i h) f

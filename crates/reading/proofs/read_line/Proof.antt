@@ -1,0 +1,55 @@
+-- `reading::read_line` meets its contract.
+-- One law for each way out.
+use mathlib.Core.Path.{refl, sym, ap, _∙_}
+use borrow.Author.Tests.{not-true, not-false}
+use Rattle.reading.proofs.Steps.{line-characters, line-shape, line-frame}
+use borrow.Author.Needs.{needs}
+use Rattle.reading.proofs.read_line.Statement.{statement}
+use Rattle.reading.proofs.read_line.Tie as tie
+
+all-digits-requires : tie.Need-all-digits-requires
+all-digits-requires c κs = search needs
+
+refuse-requires : tie.Need-refuse-requires
+refuse-requires c κs = search needs
+
+returns : tie.Need-returns
+returns c =
+    let a = c .before .before .before .before .args in
+    c .refuse .ensures ∙ line-characters (a .text .now) (a .at) (a .end) (c .before .before .before .before .pre .0) (c .before .before .before .before .pre .1) (a .m) (a .line) (c .before .before .all-digits .ensures) (not-true _ (c .before .if1 .taken))
+
+is-shaped-requires : tie.Need-is-shaped-requires
+is-shaped-requires c κs = search needs
+
+refuse-requires-2 : tie.Need-refuse-requires-2
+refuse-requires-2 c κs = search needs
+
+returns-2 : tie.Need-returns-2
+returns-2 c =
+    let a = c .before .before .before .before .before .before .args in
+    c .refuse2 .ensures ∙ line-shape (a .text .now) (a .at) (a .end) (c .before .before .before .before .before .before .pre .0) (c .before .before .before .before .before .before .pre .1) (a .m) (a .line) (c .before .before .before .before .all-digits .ensures) (not-false _ (c .before .before .before .if1 .left)) (c .before .before .is-shaped .ensures) (not-true _ (c .before .if2 .taken))
+
+sub-size : tie.Need-sub-size
+sub-size c = search needs
+
+read-frame-requires : tie.Need-read-frame-requires
+read-frame-requires c κs = search needs
+
+returns-3 : tie.Need-returns-3
+returns-3 c =
+    let a = c .before .before .before .before .before .before .args in
+    c .read-frame .ensures ∙ line-frame (a .text .now) (a .at) (a .end) (c .before .before .before .before .before .before .pre .0) (c .before .before .before .before .before .before .pre .1) (a .m) (a .line) (c .before .before .before .before .all-digits .ensures) (not-false _ (c .before .before .before .if1 .left)) (c .before .before .is-shaped .ensures) (not-false _ (c .before .if2 .left))
+
+pub read-line-spec : {M : Type 1} → statement M
+read-line-spec =
+    tie.close
+    (tie.spec
+    all-digits-requires
+    refuse-requires
+    returns
+    is-shaped-requires
+    refuse-requires-2
+    returns-2
+    sub-size
+    read-frame-requires
+    returns-3)

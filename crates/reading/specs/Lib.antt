@@ -1,0 +1,5 @@
+pub mod Lines
+pub mod Frames
+pub mod Meant
+pub mod Models
+pub mod Reading
