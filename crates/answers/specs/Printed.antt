@@ -1,8 +1,8 @@
 -- DEFINITIONS: what the checking program prints for a text. Document 01, "The checking program".
 -- Frames in hexadecimal lines, in small letters: one for each reached instance, then the verdict; on refusal only the refusal.
-use Prim.Native.Nat.{ℕ, _+_, _/_, _%_}
-use mathlib.Core.Bool.{Bool, true, false, cond}
-use mathlib.Core.List.{List, [], _∷_, _++_, map}
+use Prim.Native.Nat.{ℕ, _/_, _%_}
+use mathlib.Core.Bool.{true, cond}
+use mathlib.Core.List.{List, [], _∷_, _++_}
 use lib.Dec.{eqb, leb}
 use lib.ListN.{length, take, drop}
 use Rattle.digits.specs.Digits.{digits-of}

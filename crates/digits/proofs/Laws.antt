@@ -1,7 +1,7 @@
 -- The byte at a place of a text.
 -- By the definition of `byte-at`, its parts rewritten.
 use Prim.Native.Nat.{ℕ, _+_, _≤_}
-use mathlib.Core.Path.{_≡_, refl, sym, ap, _∙_}
+use mathlib.Core.Path.{_≡_, refl, _∙_}
 use mathlib.Core.List.{List}
 use lib.ListN.{length, getD, List·getD-eq-default}
 use Rattle.digits.specs.Digits.{worth-of, pair-of, byte-at}

@@ -1,11 +1,10 @@
 -- A digit that was written is read back as what it is worth, and the two digits of a byte as that byte.
 -- One test each, computed at all numbers there are.
 use mathlib.Core.Path.{_≡_}
-use mathlib.Core.List.{List, [], _∷_}
 use mathlib.Core.Bool.{Bool}
 use Prim.Native.Nat.{ℕ, _<_}
 use lib.Dec.{eqb, eqb→eq}
-use lib.ListN.{getD, replicate}
+use lib.ListN.{replicate}
 use Rattle.digits.specs.Digits.{worth-of, byte-at, digit-of, digits-of}
 use Rattle.digits.proofs.Table.{at}
 

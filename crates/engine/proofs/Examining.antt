@@ -107,7 +107,8 @@ module _ (t : List ℕ) (accepted : reading t .number ≡ 0) (bodies : List ℕ)
         eight = omega (arith, few);
         four = e .few;
         short = s .short;
-        reads = rw (decoded .each (equation-of w) (omega (arith, few)) (s .short), decoded-formula t equations bodies decoded (equation-of w) (omega (arith, few)) s) (reading-bodies t (equation-of w) h);
+        reads = rw (decoded .each (equation-of w) (omega (arith, few)) (s .short), decoded-formula t equations bodies decoded (equation-of w) (omega (arith, few)) s)
+            (reading-bodies t (equation-of w) h);
       }
 
   pub searchable : Searchable bodies equations count start
@@ -159,7 +160,8 @@ module _ (t : List ℕ) (accepted : reading t .number ≡ 0) (bodies : List ℕ)
       count-is = counted ∙ ap length all-kept ∙ length-map (list t) word
 
       pub words-are : take (r .count) exit ≡ ws
-      words-are = ap (take (r .count)) (kept ∙ ap (λ (l : List ℕ). l ++ drop (r .count) entry) all-kept) ∙ take-at ws (drop (r .count) entry) (r .count) (length-map (list t) word ∙ sym count-is)
+      words-are = ap (take (r .count)) (kept ∙ ap (λ (l : List ℕ). l ++ drop (r .count) entry) all-kept) ∙ take-at ws (drop (r .count) entry) (r .count)
+          (length-map (list t) word ∙ sym count-is)
 
       pub inside : r .count ≤ length exit
       inside = omega (arith, ap length kept, length-append (take room ws) (drop (r .count) entry), counted)
@@ -171,7 +173,8 @@ module _ (t : List ℕ) (accepted : reading t .number ≡ 0) (bodies : List ℕ)
       unfolding list
       solvable = rw words-are (all-ready (the-model t) (the-start t) well bodies equations stored (omega (arith, decoded .whole)) (omega (arith, fits)))
 
-      truth-is : (truth : List ℕ) → Eight truth → bit-of truth ≡ solved (numbered-system bodies equations (take (r .count) exit)) count 0 nowhere → truth ≡ truth-words (shown-values t)
+      truth-is : (truth : List ℕ) → Eight truth → bit-of truth ≡ solved (numbered-system bodies equations (take (r .count) exit)) count 0 nowhere
+          → truth ≡ truth-words (shown-values t)
       unfolding list shown-values truth-in
       truth-is truth e s =
           solved-words (the-model t) (the-start t) well bodies equations stored (truth-in (the-model t)) (λ m x. refl) truth e
@@ -232,15 +235,18 @@ outcome t accepted bodies entry exit r d f = record {
   judges = judged-so t accepted bodies d entry exit r f;
 }
 
-pub model-outcome : (t : List ℕ) (m : records.Model) (bodies : List ℕ) (w room : ℕ) (entry exit : List ℕ) (r : Filled) → reading t .number ≡ 0 → m ≡ reading t .model → Decoded t (m .equations) bodies
+pub model-outcome : (t : List ℕ) (m : records.Model) (bodies : List ℕ) (w room : ℕ) (entry exit : List ℕ) (r : Filled) → reading t .number ≡ 0 → m ≡ reading t .model
+    → Decoded t (m .equations) bodies
     → w ≡ StartWord m → room ≡ room-of (length entry) → FoundIn m bodies w room entry exit r → Outcome t m bodies entry exit r
 model-outcome t m bodies w room entry exit r accepted same d e n f =
-    subst (λ (k : records.Model). Decoded t (k .equations) bodies → FoundIn k bodies (StartWord k) (room-of (length entry)) entry exit r → Outcome t k bodies entry exit r) (sym same)
+    subst (λ (k : records.Model). Decoded t (k .equations) bodies → FoundIn k bodies (StartWord k) (room-of (length entry)) entry exit r → Outcome t k bodies entry exit r)
+    (sym same)
     (outcome t accepted bodies entry exit r) d
     (subst (λ (k : ℕ). FoundIn m bodies k (room-of (length entry)) entry exit r) e (subst (λ (k : ℕ). FoundIn m bodies w k entry exit r) n f))
 
 -- ---- the whole text
-pub examined-refused : (t entry : List ℕ) {a : Answer} → (reading t .number ≡ 0 → ⊥) → a ≡ refusal (reading t .number) (reading t .line) → (a ≡ answer t (length entry)) × (entry ≡ table-after t entry)
+pub examined-refused : (t entry : List ℕ) {a : Answer} → (reading t .number ≡ 0 → ⊥) → a ≡ refusal (reading t .number) (reading t .line)
+    → (a ≡ answer t (length entry)) × (entry ≡ table-after t entry)
 unfolding answer table-after
 examined-refused t entry h e = (e ∙ rw (ne-eqb (reading t .number) 0 h) refl, rw (ne-eqb (reading t .number) 0 h) refl)
 

@@ -59,19 +59,23 @@ stocked-fits room ws s e h = go (leb (length ws) room) refl e
 
 -- ---- the words of a beginning
 take-beginning : (n : ℕ) (l k : List Instance) → Begins l k → n ≤ length k → take n (map word k) ≡ take n (map word l)
-take-beginning n l k b h = sym (ap (λ (z : List Instance). take n (map word z)) (b .1) ∙ ap (take n) (map-append k (b .0)) ∙ take-append-le n (map word k) (map word (b .0)) (omega (arith, length-map k word)))
+take-beginning n l k b h = sym (ap (λ (z : List Instance). take n (map word z)) (b .1) ∙ ap (take n) (map-append k (b .0)) ∙ take-append-le n (map word k) (map word (b .0))
+    (omega (arith, length-map k word)))
 
 -- ---- the right side of a word's instance
-pub part-body : (bodies : List ℕ) (equations : List Equation) (e : ℕ) → take (e * 256 + equation-at equations e .length - e * 256) (drop (e * 256) bodies) ≡ body-in bodies equations e
+pub part-body : (bodies : List ℕ) (equations : List Equation) (e : ℕ)
+    → take (e * 256 + equation-at equations e .length - e * 256) (drop (e * 256) bodies) ≡ body-in bodies equations e
 unfolding body-in
 part-body bodies equations e =
     let same : e * 256 + equation-at equations e .length - e * 256 ≡ equation-at equations e .length = omega arith in
     rw same refl
 
 pub side-gathers : (bodies : List ℕ) (equations : List Equation) (w : ℕ) {room next : ℕ} {body : List ℕ} {scope : Scope} {t t′ : List ℕ} {s r : Filled} → Ready bodies equations w
-    → body ≡ body-in bodies equations (equation-of w) → scope .count ≡ equation-at equations (equation-of w) .k → seen scope ≡ arguments-of (equation-at equations (equation-of w) .k) w
+    → body ≡ body-in bodies equations (equation-of w) → scope .count ≡ equation-at equations (equation-of w) .k → seen scope ≡ arguments-of
+    (equation-at equations (equation-of w) .k) w
     → GatherMeets room body 0 scope false false t t′ s r next → Kept room t t′ s r × (stock t′ r ≡ add room (stock t s) (words-left (left-in bodies equations w)))
-side-gathers bodies equations w {room} {t} {t′} {s} {r} y b c v g = (g .kept, reads-some (rw (v, b, c, y .reads) at (g .meets (equation-at equations (equation-of w) .length) 0 (omega (arith, y .four)))) .0 (λ h. no h))
+side-gathers bodies equations w {room} {t} {t′} {s} {r} y b c v g =
+    (g .kept, reads-some (rw (v, b, c, y .reads) at (g .meets (equation-at equations (equation-of w) .length) 0 (omega (arith, y .four)))) .0 (λ h. no h))
 
 -- ---- the model's equations
 module _ (bodies : List ℕ) (equations : List Equation) where
@@ -117,13 +121,20 @@ module _ (bodies : List ℕ) (equations : List Equation) (count start room : ℕ
   below e x t = omega (arith, ltb→lt e _ (Is→T (and-l _ _ t)), signatures-length model, model-length bodies equations 0 count)
 
   counts : (e : ℕ) (x : List ℕ) → Is (C (e ∷ x)) → equation-at equations e .k ≡ length x
-  counts e x t = sym (searchable .wide e (below e x t)) ∙ ap length (sym (signature-there bodies equations count e (below e x t))) ∙ sym (typed-length model first (searchable .well) e x t)
+  counts e x t = sym (searchable .wide e (below e x t)) ∙ ap length (sym (signature-there bodies equations count e (below e x t))) ∙ sym
+      (typed-length model first (searchable .well) e x t)
 
   -- what is left of an instance's right side is what comes next
   side-next : (e : ℕ) (x : List ℕ) → Is (C (e ∷ x)) → words-left (left-in bodies equations (word (e ∷ x))) ≡ map word (next model (e ∷ x))
   unfolding next
   side-next e x t =
-      rw (word-equation model first (searchable .well) e x t, counts e x t, word-arguments model first (searchable .well) e x t, body-there bodies equations count e (below e x t)) refl
+      rw (
+        word-equation model first (searchable .well) e x t,
+        counts e x t,
+        word-arguments model first (searchable .well) e x t,
+        body-there bodies equations count e
+            (below e x t),
+      ) refl
 
   pub side-ready : (i : Instance) → Is (C i) → Ready bodies equations (word i)
   unfolding typed
@@ -157,7 +168,8 @@ module _ (bodies : List ℕ) (equations : List Equation) (count start room : ℕ
   -- no room at all
   pub no-room : (t₀ : List ℕ) → room ≡ 0 → Found model first room t₀ t₀ (record { count = 0; over = true })
   no-room t₀ h =
-      let l : 1 ≤ length (reached model first) = begins-length (reached model first) (first ∷ []) (stage-prefix model first (searchable .well) [] (first ∷ []) (stage-start model first (searchable .well))) in
+      let l : 1 ≤ length (reached model first) = begins-length (reached model first) (first ∷ [])
+      (stage-prefix model first (searchable .well) [] (first ∷ []) (stage-start model first (searchable .well))) in
       record { over = sym (lt-ltb room (length (reached model first)) (omega arith)); count = rw h refl; table = rw h refl }
 
   module _ (t₀ t : List ℕ) (n i : ℕ) (s : Searching t₀ t n i) where
@@ -180,7 +192,8 @@ module _ (bodies : List ℕ) (equations : List Equation) (count start room : ℕ
         all = stage-end model first (searchable .well) (s .done) (subst (Stage model first (s .done)) empty (s .stage)) ∙ sym found
 
         kept : take room (map word (reached model first)) ≡ take n t
-        kept = ap (λ (l : List Instance). take room (map word l)) all ∙ take-all room (map word (s .done ++ s .todo)) (omega (arith, length-map (s .done ++ s .todo) word, s .within, s .counted)) ∙ sym (s .words)
+        kept = ap (λ (l : List Instance). take room (map word l)) all ∙ take-all room (map word (s .done ++ s .todo))
+            (omega (arith, length-map (s .done ++ s .todo) word, s .within, s .counted)) ∙ sym (s .words)
 
         counts-all : n ≡ length (take room (map word (reached model first)))
         counts-all = sym (ap length (kept ∙ s .words) ∙ length-map (s .done ++ s .todo) word ∙ s .counted)
@@ -232,14 +245,17 @@ module _ (bodies : List ℕ) (equations : List Equation) (count start room : ℕ
 
       begins : Begins (reached model first) found′
       begins = subst (Begins (reached model first)) (regroup (s .done) later (new model (s .done) taking later) taking)
-          (stage-prefix model first (searchable .well) (s .done ++ (taking ∷ [])) (later ++ new model (s .done) taking later) (stage-step model first (searchable .well) (s .done) taking later at-stage))
+          (stage-prefix model first (searchable .well) (s .done ++ (taking ∷ [])) (later ++ new model (s .done) taking later)
+          (stage-step model first (searchable .well) (s .done) taking later at-stage))
 
       module _ (lent : room ≤ length t₀) (t′ : List ℕ) (r : Filled) (kept : Kept room t t′ (record { count = n; over = false }) r)
           (added : stock t′ r ≡ add room (stock t (record { count = n; over = false })) (words-left (left-in bodies equations (getD t i 0)))) where
         filled : stock t′ r ≡ stocked room (map word found′)
         filled =
-            added ∙ ap₂ (λ (l : List ℕ) (k : List ℕ). add room (l, false) k) (s .words ∙ ap (map word) same-found) (ap (λ (w : ℕ). words-left (left-in bodies equations w)) taken-word ∙ next-words taking is-typed)
-            ∙ add-fresh C distinct room found (next model taking) (stage-typed model first (searchable .well) (s .done) (taking ∷ later) at-stage) (next-typed model first (searchable .well) taking is-typed) (omega (arith, ap length same-found, s .within, s .counted))
+            added ∙ ap₂ (λ (l : List ℕ) (k : List ℕ). add room (l, false) k) (s .words ∙ ap (map word) same-found)
+            (ap (λ (w : ℕ). words-left (left-in bodies equations w)) taken-word ∙ next-words taking is-typed)
+            ∙ add-fresh C distinct room found (next model taking) (stage-typed model first (searchable .well) (s .done) (taking ∷ later) at-stage)
+            (next-typed model first (searchable .well) taking is-typed) (omega (arith, ap length same-found, s .within, s .counted))
 
         size : length t′ ≡ length t₀
         size = kept .size ∙ s .size
@@ -254,7 +270,8 @@ module _ (bodies : List ℕ) (equations : List Equation) (count start room : ℕ
         search-over h =
             let p = stocked-over room (map word found′) (stock t′ r) filled h in
             let l = begins-length (reached model first) found′ begins in
-            let whole : take (r .count) t′ ≡ take room (map word (reached model first)) = p .1 ∙ take-beginning room (reached model first) found′ begins (omega (arith, p .0, length-map found′ word)) in
+            let whole : take (r .count) t′ ≡ take room (map word (reached model first)) = p .1 ∙ take-beginning room (reached model first) found′ begins
+            (omega (arith, p .0, length-map found′ word)) in
             record {
               over = h ∙ sym (lt-ltb room (length (reached model first)) (omega (arith, p .0, length-map found′ word)));
               count = sym counted ∙ ap length whole;

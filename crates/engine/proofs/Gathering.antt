@@ -107,7 +107,8 @@ told-is-open (decided true) = refl
 told-is-open (decided false) = refl
 told-is-open (left l) = refl
 
-pub opens : {body : List ℕ} {at : ℕ} {scope : Scope} (truth : List ℕ) {v : Value} {b : Bool} {next : ℕ} → FormulaMeets (assignment [] truth) body at scope v next → b ≡ is-open v → OpenMeets body at scope b next
+pub opens : {body : List ℕ} {at : ℕ} {scope : Scope} (truth : List ℕ) {v : Value} {b : Bool} {next : ℕ} → FormulaMeets (assignment [] truth) body at scope v next → b ≡ is-open v
+    → OpenMeets body at scope b next
 opens {scope} truth m h = record {
   on = m .on;
   meets = λ n q l. reads-map (m .meets n q l) (λ f e. h ∙ ap is-open (e ∙ open-everywhere f truth (seen scope)) ∙ told-is-open (simplified f (seen scope)));
@@ -123,7 +124,8 @@ abbrev pub Pushes : Scope → Scope → ℕ → Type 0
 Pushes scope inner x = scope .count < 8 → (inner .count ≡ scope .count + 1) × (seen inner ≡ seen scope ++ (x ∷ []))
 
 -- the only value of a range
-one-value : (all : Bool) (room : ℕ) (s e : Stock) (x : Simplified) → (absorbs all x ≡ false → Takes room s e x) → absorbs all (join-simplified all x (decided all)) ≡ false → Takes room s e (join-simplified all x (decided all))
+one-value : (all : Bool) (room : ℕ) (s e : Stock) (x : Simplified) → (absorbs all x ≡ false → Takes room s e x) → absorbs all (join-simplified all x (decided all)) ≡ false
+    → Takes room s e (join-simplified all x (decided all))
 unfolding instances
 one-value all room s e x g d =
     let p = parted all x (decided all) d in
@@ -139,21 +141,24 @@ module _ (room : ℕ) (body : List ℕ) (at : ℕ) (scope : Scope) where
   pub gather-past : {within all : Bool} {t : List ℕ} {s : Filled} → length body ≤ at → s .count ≤ room → GatherMeets room body at scope within all t t s s at
   gather-past h l = record { on = omega arith; kept = kept-same l; meets = λ n q _. nothing-there _ at n q (rw (List·getD-eq-default body 0 h) no-kind) }
 
-  pub gather-settled : (kind : Kind) (within all : Bool) {t t′ : List ℕ} {s r : Filled} {next : ℕ} → settled kind within all ≡ true → PartsMeet room body at scope kind t t′ s r next → GatherMeets room body at scope within all t t′ s r next
+  pub gather-settled : (kind : Kind) (within all : Bool) {t t′ : List ℕ} {s r : Filled} {next : ℕ} → settled kind within all ≡ true
+      → PartsMeet room body at scope kind t t′ s r next → GatherMeets room body at scope within all t t′ s r next
   gather-settled kind within all h p = record {
     on = p .on;
     kept = p .kept;
     meets = λ n q l. reads-map (p .meets n q l) (λ f g free. g (settled-free kind within all (simplified f (seen scope)) h free));
   }
 
-  pub gather-open : (kind : Kind) (within all : Bool) {t t′ : List ℕ} {s r : Filled} {b : Bool} {m next : ℕ} → OpenMeets body at scope b m → b ≡ true → PartsMeet room body at scope kind t t′ s r next → GatherMeets room body at scope within all t t′ s r next
+  pub gather-open : (kind : Kind) (within all : Bool) {t t′ : List ℕ} {s r : Filled} {b : Bool} {m next : ℕ} → OpenMeets body at scope b m → b ≡ true
+      → PartsMeet room body at scope kind t t′ s r next → GatherMeets room body at scope within all t t′ s r next
   gather-open kind within all o h p = record {
     on = p .on;
     kept = p .kept;
     meets = λ n q l. reads-map (reads-both (p .meets n q l) (o .meets n q l)) (λ f g free. g .0 (open-free kind (simplified f (seen scope)) (sym (g .1) ∙ h)));
   }
 
-  pub gather-closed : {within all : Bool} {t : List ℕ} {s : Filled} {b : Bool} {next : ℕ} → s .count ≤ room → OpenMeets body at scope b next → b ≡ false → GatherMeets room body at scope within all t t s s next
+  pub gather-closed : {within all : Bool} {t : List ℕ} {s : Filled} {b : Bool} {next : ℕ} → s .count ≤ room → OpenMeets body at scope b next → b ≡ false
+      → GatherMeets room body at scope within all t t s s next
   gather-closed l o h = record {
     on = o .on;
     kept = kept-same l;
@@ -164,28 +169,33 @@ module _ (room : ℕ) (body : List ℕ) (at : ℕ) (scope : Scope) where
   pub parts-none : {kind : Kind} {t : List ℕ} {s : Filled} → s .count ≤ room → kind-of (getD body at 0) ≡ NoFormula → PartsMeet room body at scope kind t t s s at
   parts-none l h = record { on = omega arith; kept = kept-same l; meets = λ n q _. nothing-there _ at n q h }
 
-  constant-there : (s : Stock) (b : Bool) (n q : ℕ) → kind-of (getD body at 0) ≡ Constant b → Reads (λ f. Takes room s s (simplified f (seen scope))) (at + 1) (formula-at n body (scope .count) q at)
+  constant-there : (s : Stock) (b : Bool) (n q : ℕ) → kind-of (getD body at 0) ≡ Constant b
+      → Reads (λ f. Takes room s s (simplified f (seen scope))) (at + 1) (formula-at n body (scope .count) q at)
   unfolding formula-at simplified instances add
   constant-there s b zero q h = nothing
   constant-there s b (suc n) q h = rw (shape-constant n body (scope .count) q at b h) (read refl)
 
-  pub parts-constant : {kind : Kind} {t : List ℕ} {s : Filled} → s .count ≤ room → (b : Bool) → kind-of (getD body at 0) ≡ Constant b → PartsMeet room body at scope kind t t s s (at + 1)
+  pub parts-constant : {kind : Kind} {t : List ℕ} {s : Filled} → s .count ≤ room → (b : Bool) → kind-of (getD body at 0) ≡ Constant b
+      → PartsMeet room body at scope kind t t s s (at + 1)
   parts-constant {t} {s} l b h = record { on = omega arith; kept = kept-same l; meets = λ n q _. reads-map (constant-there (stock t s) b n q h) (λ f g _. g) }
 
-  compared-none : (P : Formula → Type 0) (e : ℕ) (test : Test) (p : Parsed Term) (k : ℕ → Parsed Term) → Reads P e (then p (λ a m. then (k m) (λ b e. some (compared (test-of test) a b) e)))
+  compared-none : (P : Formula → Type 0) (e : ℕ) (test : Test) (p : Parsed Term) (k : ℕ → Parsed Term)
+      → Reads P e (then p (λ a m. then (k m) (λ b e. some (compared (test-of test) a b) e)))
       → Reads (λ f. P f × (words-left (simplified f (seen scope)) ≡ [])) e (then p (λ a m. then (k m) (λ b e. some (compared (test-of test) a b) e)))
   unfolding simplified instances
   compared-none P e test none k h = nothing
   compared-none P e test (some a m) k h = go (k m) h
     where
-      go : (p : Parsed Term) → Reads P e (then p (λ b e. some (compared (test-of test) a b) e)) → Reads (λ f. P f × (words-left (simplified f (seen scope)) ≡ [])) e (then p (λ b e. some (compared (test-of test) a b) e))
+      go : (p : Parsed Term) → Reads P e (then p (λ b e. some (compared (test-of test) a b) e))
+          → Reads (λ f. P f × (words-left (simplified f (seen scope)) ≡ [])) e (then p (λ b e. some (compared (test-of test) a b) e))
       go none h = nothing
       go (some b i) h = one h
         where
           none-left : words-left (simplified (compared (test-of test) a b) (seen scope)) ≡ []
           none-left = refl
 
-          one : {i : ℕ} → Reads P e (some (compared (test-of test) a b) i) → Reads (λ f. P f × (words-left (simplified f (seen scope)) ≡ [])) e (some (compared (test-of test) a b) i)
+          one : {i : ℕ} → Reads P e (some (compared (test-of test) a b) i)
+              → Reads (λ f. P f × (words-left (simplified f (seen scope)) ≡ [])) e (some (compared (test-of test) a b) i)
           one (read x) = read (x, none-left)
 
   compare-there : {P : Formula → Type 0} {e : ℕ} (n q : ℕ) (test : Test) → kind-of (getD body at 0) ≡ Compare test → Reads P e (formula-at n body (scope .count) q at)
@@ -193,7 +203,8 @@ module _ (room : ℕ) (body : List ℕ) (at : ℕ) (scope : Scope) where
   unfolding formula-at
   compare-there zero q test h r = nothing
   compare-there {P} {e} (suc n) q test h r =
-      rw (shape-compare n body (scope .count) q at test h) (compared-none P e test (term-at n body (scope .count) (at + 1)) (term-at n body (scope .count)) (rw (shape-compare n body (scope .count) q at test h) at r))
+      rw (shape-compare n body (scope .count) q at test h) (compared-none P e test (term-at n body (scope .count) (at + 1)) (term-at n body (scope .count))
+      (rw (shape-compare n body (scope .count) q at test h) at r))
 
   abbrev Part : Bool → Stock → Stock → Formula → Type 0
   Part all s m f = Free true all (simplified f (seen scope)) → Takes room s m (simplified f (seen scope))
@@ -210,7 +221,8 @@ module _ (room : ℕ) (body : List ℕ) (at : ℕ) (scope : Scope) where
       let p = parted all (simplified f (seen scope)) (simplified g (seen scope)) d in
       takes-both room all s m e (simplified f (seen scope)) (simplified g (seen scope)) p (x (λ _. p .first)) (y (λ _. p .second))))))
 
-  quantifier-there : {all : Bool} {range : ℕ} {t e : List ℕ} {s r : Filled} {next : ℕ} (n q : ℕ) → scope .count ≤ 4 + q → kind-of (getD body at 0) ≡ Quantifier all → range ≡ getD body (at + 1) 0
+  quantifier-there : {all : Bool} {range : ℕ} {t e : List ℕ} {s r : Filled} {next : ℕ} (n q : ℕ) → scope .count ≤ 4 + q → kind-of (getD body at 0) ≡ Quantifier all
+      → range ≡ getD body (at + 1) 0
       → FoldGathers room body (at + 2) scope all 0 range t e s r next
       → Reads (λ f. absorbs all (simplified f (seen scope)) ≡ false → Takes room (stock t s) (stock e r) (simplified f (seen scope))) next (formula-at n body (scope .count) q at)
   unfolding formula-at simplified
@@ -220,7 +232,8 @@ module _ (room : ℕ) (body : List ℕ) (at : ℕ) (scope : Scope) where
       (reads-when (ltb q 4) (λ few. reads-when (is-range range) (λ ranged.
       reads-then _ (a .meets n q (ltb-true q 4 few) k (range-positive range ranged)) (λ f x. read x))))
 
-  pub parts-compare : {kind : Kind} {t : List ℕ} {s : Filled} {b : Bool} {next : ℕ} → s .count ≤ room → (test : Test) → kind-of (getD body at 0) ≡ Compare test → OpenMeets body at scope b next → PartsMeet room body at scope kind t t s s next
+  pub parts-compare : {kind : Kind} {t : List ℕ} {s : Filled} {b : Bool} {next : ℕ} → s .count ≤ room → (test : Test) → kind-of (getD body at 0) ≡ Compare test
+      → OpenMeets body at scope b next → PartsMeet room body at scope kind t t s s next
   parts-compare {t} {s} l test h o = record {
     on = o .on;
     kept = kept-same l;
@@ -272,7 +285,8 @@ module _ (room : ℕ) (body : List ℕ) (at : ℕ) (scope : Scope) where
         let v = p .1 in
         reads-map (rw (v, c) at (a .meets n (q + 1) (omega arith))) (λ f g d. g (λ _. d))
 
-    pub fold-last : (more : ℕ) {t e : List ℕ} {s r : Filled} {next : ℕ} → more ≤ 1 → GatherMeets room body at inner true all t e s r next → FoldGathers room body at scope all x more t e s r next
+    pub fold-last : (more : ℕ) {t e : List ℕ} {s r : Filled} {next : ℕ} → more ≤ 1 → GatherMeets room body at inner true all t e s r next
+        → FoldGathers room body at scope all x more t e s r next
     unfolding over
     fold-last more {t} {e} {s} {r} l a = record {
       on = a .on;

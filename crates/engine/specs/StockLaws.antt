@@ -44,8 +44,10 @@ unfolding index-of mem
 has-mem C d [] i a c = refl
 has-mem C d (j ∷ l) i a c = go (eqb (word j) (word i)) refl (has-mem C d l i (λ k h. a k (mem-tail k j l h)) c)
   where
-    go : (b : Bool) → eqb (word j) (word i) ≡ b → has-word (map word l) (word i) ≡ mem i l → ltb (cond b 0 (suc (index-of (map word l) (word i)))) (suc (length (map word l))) ≡ (same i j or mem i l)
-    go true e h = let k : j ≡ i = d j i (a j (mem-head j l)) c (eqb→eq _ _ (rw e tt)) in lt-ltb 0 (suc (length (map word l))) (omega arith) ∙ sym (rw k (Is→eq (or-l (mem i l) (same-refl i))))
+    go : (b : Bool) → eqb (word j) (word i) ≡ b → has-word (map word l) (word i) ≡ mem i l
+        → ltb (cond b 0 (suc (index-of (map word l) (word i)))) (suc (length (map word l))) ≡ (same i j or mem i l)
+    go true e h = let k : j ≡ i = d j i (a j (mem-head j l)) c (eqb→eq _ _ (rw e tt)) in lt-ltb 0 (suc (length (map word l))) (omega arith) ∙ sym
+        (rw k (Is→eq (or-l (mem i l) (same-refl i))))
     go false e h = leb·suc-suc (suc (index-of (map word l) (word i))) (length (map word l)) ∙ h ∙ same-truth _ _ (or-r _) (λ k. other (or-e _ _ k))
       where
         other : Is (same i j) ⊎ Is (mem i l) → Is (mem i l)
@@ -105,7 +107,8 @@ module _ (C : Instance → Bool) (d : Distinct C) (room : ℕ) where
       go (inr h) = rw (mem-one k i h) c
 
   -- adding the words of a list to those found: the fresh ones come behind, as far as there is room
-  pub add-fresh : (found l : List Instance) → AllIn C found → AllIn C l → length found ≤ room → add room (map word found, false) (map word l) ≡ stocked room (map word (found ++ fresh found l))
+  pub add-fresh : (found l : List Instance) → AllIn C found → AllIn C l → length found ≤ room
+      → add room (map word found, false) (map word l) ≡ stocked room (map word (found ++ fresh found l))
   unfolding add fresh
   add-fresh found [] a c h = rw append-nil (sym (stocked-all room (map word found) (omega (arith, length-map found word))))
   add-fresh found (i ∷ l) a c h = go (mem i found) refl (decLt (length found) room)
@@ -121,10 +124,14 @@ module _ (C : Instance → Bool) (d : Distinct C) (room : ℕ) where
           → add room (add-one room (map word found, false) (word i)) (map word l) ≡ stocked room (map word (found ++ cond b (fresh found l) (i ∷ fresh (i ∷ found) l)))
       go true e q p r = ap (λ (s : Stock). add room s (map word l)) (add-known room (map word found) (word i) (known ∙ e)) ∙ p
       go false e (yes q) p r =
-          ap (λ (s : Stock). add room s (map word l)) (add-new room (map word found) (word i) (known ∙ e) (omega (arith, length-map found word)) ∙ ap (λ (k : List ℕ). (k, false)) (sym (map-append found (i ∷ []))))
+          ap (λ (s : Stock). add room s (map word l)) (add-new room (map word found) (word i) (known ∙ e) (omega (arith, length-map found word)) ∙ ap (λ (k : List ℕ). (k, false))
+          (sym (map-append found (i ∷ []))))
           ∙ r q
-          ∙ ap (λ (k : List Instance). stocked room (map word k)) (ap (λ (k : List Instance). (found ++ (i ∷ [])) ++ k) (fresh-same (found ++ (i ∷ [])) (i ∷ found) l (mem-snoc found i)) ∙ append-assoc found (i ∷ []) (fresh (i ∷ found) l))
+          ∙ ap (λ (k : List Instance). stocked room (map word k))
+          (ap (λ (k : List Instance). (found ++ (i ∷ [])) ++ k) (fresh-same (found ++ (i ∷ [])) (i ∷ found) l (mem-snoc found i)) ∙ append-assoc found (i ∷ [])
+          (fresh (i ∷ found) l))
       go false e (no q) p r =
           ap (λ (s : Stock). add room s (map word l)) (add-last room (map word found) (word i) (known ∙ e) (omega (arith, length-map found word)))
           ∙ add-over room (map word found) (map word l)
-          ∙ sym (ap (stocked room) (map-append found (i ∷ fresh (i ∷ found) l)) ∙ stocked-more room (map word found) (word i) (map word (fresh (i ∷ found) l)) (omega (arith, length-map found word)))
+          ∙ sym (ap (stocked room) (map-append found (i ∷ fresh (i ∷ found) l)) ∙ stocked-more room (map word found) (word i) (map word (fresh (i ∷ found) l))
+          (omega (arith, length-map found word)))

@@ -2,10 +2,10 @@
 -- By induction on how deep the decoder goes; its own tests are those of `sound`.
 use Prim.Native.Nat.{ℕ, zero, suc, _+_, _-_, _≤_}
 use native.Mathlib.Numerals.{add-one}
-use mathlib.Core.Path.{_≡_, refl, sym, ap, _∙_}
+use mathlib.Core.Path.{_≡_, refl, ap, _∙_}
 use mathlib.Core.Bool.{Bool, true, false, false≢true}
 use mathlib.Core.List.{List, [], _∷_}
-use lib.Dec.{eqb, ltb, leb}
+use lib.Dec.{ltb, leb}
 use lib.ListN.{length, getD}
 use borrow.Author.Tests.{eqb-true, leb-true}
 use Rattle.digits.specs.Digits.{bytes-at}
@@ -18,7 +18,7 @@ use Rattle.formulas.specs.declared.Kind.the-variants.{NoFormula, Constan
 use Rattle.formulas.specs.declared.TermKind.{TermKind}
 use Rattle.formulas.specs.declared.TermKind.the-variants.{NoTerm, Number, Variable, Calculation}
 use Rattle.formulas.specs.Codes.{kind-of, term-kind-of, operands-of}
-use Rattle.formulas.specs.Decode.{Parsed, none, some, then, when, in-row, nth-term, nth-formula, term-of-kind, term-at, terms-at, formula-of-kind, formula-at}
+use Rattle.formulas.specs.Decode.{Parsed, none, some, then, when, in-row, nth-term, term-of-kind, term-at, terms-at, formula-of-kind, formula-at}
 use Rattle.formulas.specs.Bodies.{ranges-of, body-at, found, formula-of, ends, is-body}
 
 -- P holds of what was read, wherever it ends

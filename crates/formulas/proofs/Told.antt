@@ -3,13 +3,13 @@
 use Prim.Native.Nat.{ℕ, zero, suc, _+_, _≤_, _<_}
 use native.Mathlib.Omega.{arith}
 use mathlib.Core.Path.{_≡_, refl}
-use mathlib.Core.Bool.{Bool, true, false, cond, _&&_}
+use mathlib.Core.Bool.{Bool, true, false, _&&_}
 use mathlib.Core.List.{List}
 use lib.Dec.{eqb}
 use lib.ListN.{length}
 use Rattle.meaning.specs.Logic.{_and_}
 use Rattle.meaning.specs.Formulas.{Formula, constant}
-use Rattle.formulas.specs.Decode.{Parsed, none, some, then, when}
+use Rattle.formulas.specs.Decode.{Parsed, some, then, when}
 use Rattle.formulas.specs.Bodies.{found, ends}
 use Rattle.formulas.specs.Contract.{Told, refused, told}
 

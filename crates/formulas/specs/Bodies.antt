@@ -1,7 +1,7 @@
 -- DEFINITIONS: the body of an equation. Document 01, "Text of a model", refusals 6 and 7.
 -- The body is what follows the head of an equation's frame; its place and length stand in the equation's record.
 use Prim.Native.Nat.{ℕ}
-use mathlib.Core.Bool.{Bool, true, false}
+use mathlib.Core.Bool.{Bool, false}
 use mathlib.Core.List.{List, [], map}
 use lib.Dec.{eqb, leb}
 use lib.ListN.{length, take}

@@ -7,7 +7,7 @@ use mathlib.Core.List.{List}
 use lib.Dec.{leb}
 use lib.ListN.{length, drop, getD}
 use Rattle.meaning.specs.Logic.{_and_}
-use Rattle.meaning.specs.Formulas.{Term, Formula, instance}
+use Rattle.meaning.specs.Formulas.{Formula, instance}
 use Rattle.meaning.specs.Ranges.{term-range, arguments-fit, fits}
 use Rattle.formulas.specs.declared.Scope.{Scope}
 use Rattle.formulas.specs.Scopes.{seen}

@@ -3,9 +3,10 @@
 use Prim.Native.Nat.{ℕ}
 use mathlib.Core.Path.{_≡_, refl}
 use mathlib.Core.Bool.{Bool, true, false}
-use Rattle.formulas.specs.Decode.{Parsed, none, some, Reads, nothing, read, then, when}
+use Rattle.formulas.specs.Decode.{Parsed, some, Reads, nothing, read, then, when}
 
-pub reads-then : {A B : Type 0} {P : A → Type 0} {Q : B → Type 0} {p : Parsed A} {m e : ℕ} (k : A → ℕ → Parsed B) → Reads P m p → ((a : A) → P a → Reads Q e (k a m)) → Reads Q e (then p k)
+pub reads-then : {A B : Type 0} {P : A → Type 0} {Q : B → Type 0} {p : Parsed A} {m e : ℕ} (k : A → ℕ → Parsed B)
+    → Reads P m p → ((a : A) → P a → Reads Q e (k a m)) → Reads Q e (then p k)
 reads-then k nothing f = nothing
 reads-then k (read {a} h) f = f a h
 

@@ -7,7 +7,7 @@ use mathlib.Core.Bool.{Bool, true, false, cond, _&&_}
 use mathlib.Core.List.{List, [], _∷_}
 use lib.Dec.{T, eqb, eqb→eq, ltb, leb}
 use lib.ListN.{getD}
-use Rattle.meaning.specs.Formulas.{Term, number, variable, calculated, Formula, constant, joined, quantified, compared, instance}
+use Rattle.meaning.specs.Formulas.{number, variable, calculated, Formula, constant, joined, quantified, compared, instance}
 use Rattle.meaning.specs.Ranges.{is-range}
 use Rattle.formulas.specs.declared.Row.{Row}
 use Rattle.formulas.specs.declared.Kind.{Kind}
@@ -16,7 +16,7 @@ use Rattle.formulas.specs.declared.TermKind.{TermKind}
 use Rattle.formulas.specs.declared.TermKind.the-variants.{NoTerm, Number, Variable, Calculation}
 use Rattle.formulas.specs.declared.Test.{Test}
 use Rattle.formulas.specs.Codes.{rows, no-row, row-of, kind-of, term-kind-of, operands-of}
-use Rattle.formulas.specs.Decode.{Parsed, none, some, then, when, in-row, nth-term, nth-formula, test-of, term-of-kind, term-at, terms-at, formula-of-kind, formula-at}
+use Rattle.formulas.specs.Decode.{Parsed, none, some, then, when, in-row, test-of, term-of-kind, term-at, terms-at, formula-of-kind, formula-at}
 
 -- ---- how many operands a code has, by its kind
 abbrev formula-counts : Kind → ℕ → Bool
@@ -107,20 +107,25 @@ module _ {A B : Type 0} (one : ℕ → Parsed A) (d : A) where
   one-read g none = refl
   one-read g (some a e) = refl
 
-  pub one-in-row : (g : A → B) (at : ℕ) → then (in-row one 1 at) (λ l e. some (g (getD l 0 d)) e) ≡ then (one at) (λ a e. some (g a) e)
+  pub one-in-row : (g : A → B) (at : ℕ) → then (in-row one 1 at) (λ l e. some (g (getD l 0 d)) e)
+      ≡ then (one at) (λ a e. some (g a) e)
   unfolding in-row
   one-in-row g at = one-read g (one at)
 
-  second-read : (g : A → A → B) (a : A) (p : Parsed A) → then (then (then p (λ b m. then (some [] m) (λ rest e. some (b ∷ rest) e))) (λ rest e. some (a ∷ rest) e)) (λ l e. some (g (getD l 0 d) (getD l 1 d)) e) ≡ then p (λ b e. some (g a b) e)
+  second-read : (g : A → A → B) (a : A) (p : Parsed A)
+      → then (then (then p (λ b m. then (some [] m) (λ rest e. some (b ∷ rest) e))) (λ rest e. some (a ∷ rest) e)) (λ l e. some (g (getD l 0 d) (getD l 1 d)) e)
+      ≡ then p (λ b e. some (g a b) e)
   second-read g a none = refl
   second-read g a (some b e) = refl
 
-  first-read : (g : A → A → B) (p : Parsed A) → then (then p (λ a m. then (in-row one 1 m) (λ rest e. some (a ∷ rest) e))) (λ l e. some (g (getD l 0 d) (getD l 1 d)) e) ≡ then p (λ a m. then (one m) (λ b e. some (g a b) e))
+  first-read : (g : A → A → B) (p : Parsed A) → then (then p (λ a m. then (in-row one 1 m) (λ rest e. some (a ∷ rest) e))) (λ l e. some (g (getD l 0 d) (getD l 1 d)) e)
+      ≡ then p (λ a m. then (one m) (λ b e. some (g a b) e))
   unfolding in-row
   first-read g none = refl
   first-read g (some a m) = second-read g a (one m)
 
-  pub two-in-row : (g : A → A → B) (at : ℕ) → then (in-row one 2 at) (λ l e. some (g (getD l 0 d) (getD l 1 d)) e) ≡ then (one at) (λ a m. then (one m) (λ b e. some (g a b) e))
+  pub two-in-row : (g : A → A → B) (at : ℕ) → then (in-row one 2 at) (λ l e. some (g (getD l 0 d) (getD l 1 d)) e)
+      ≡ then (one at) (λ a m. then (one m) (λ b e. some (g a b) e))
   unfolding in-row
   two-in-row g at = first-read g (one at)
 
@@ -130,47 +135,63 @@ module _ (n : ℕ) (s : List ℕ) (k at : ℕ) where
   unfolding term-at term-of-kind
   shape-no-term h = rw h refl
 
-  pub shape-number : term-kind-of (getD s at 0) ≡ Number → term-at (suc n) s k at ≡ when (leb (getD s (at + 1) 0) 15) (some (number (getD s (at + 1) 0)) (at + 2))
+  pub shape-number : term-kind-of (getD s at 0) ≡ Number
+      → term-at (suc n) s k at ≡ when (leb (getD s (at + 1) 0) 15) (some (number (getD s (at + 1) 0)) (at + 2))
   unfolding term-at term-of-kind
   shape-number h = rw (h, operands-number (getD s at 0) h) refl
 
-  pub shape-variable : term-kind-of (getD s at 0) ≡ Variable → term-at (suc n) s k at ≡ when (ltb (getD s (at + 1) 0) k) (some (variable (getD s (at + 1) 0)) (at + 2))
+  pub shape-variable : term-kind-of (getD s at 0) ≡ Variable
+      → term-at (suc n) s k at ≡ when (ltb (getD s (at + 1) 0) k) (some (variable (getD s (at + 1) 0)) (at + 2))
   unfolding term-at term-of-kind
   shape-variable h = rw (h, operands-variable (getD s at 0) h) refl
 
-  pub shape-calculation : (plus : Bool) → term-kind-of (getD s at 0) ≡ Calculation plus → term-at (suc n) s k at ≡ when (is-range (getD s (at + 1) 0)) (then (term-at n s k (at + 2)) (λ a m. then (term-at n s k m) (λ b e. some (calculated plus (getD s (at + 1) 0) a b) e)))
+  pub shape-calculation : (plus : Bool) → term-kind-of (getD s at 0) ≡ Calculation plus
+      → term-at (suc n) s k at ≡ when (is-range (getD s (at + 1) 0))
+      (then (term-at n s k (at + 2)) (λ a m. then (term-at n s k m) (λ b e. some (calculated plus (getD s (at + 1) 0) a b) e)))
   unfolding term-at term-of-kind
-  shape-calculation plus h = rw (h, operands-calculation (getD s at 0) plus h, two-in-row (term-at n s k) (number 0) (calculated plus (getD s (at + 1) 0)) (at + 2)) refl
+  shape-calculation plus h =
+      rw (h, operands-calculation (getD s at 0) plus h, two-in-row (term-at n s k) (number 0) (calculated plus (getD s (at + 1) 0)) (at + 2)) refl
 
 -- ---- formulas: a test's two terms, from `at`; an instance's equation, its number of arguments and these, from `at`
 abbrev pub compared-at : ℕ → Test → List ℕ → ℕ → ℕ → Parsed Formula
 compared-at n t s k at = then (term-at n s k at) (λ a m. then (term-at n s k m) (λ b e. some (compared (test-of t) a b) e))
 
 abbrev pub instance-at : ℕ → List ℕ → ℕ → ℕ → Parsed Formula
-instance-at n s k at = when (leb (getD s (at + 1) 0) 4) (then (terms-at n (getD s (at + 1) 0) s k (at + 2)) (λ ts e. some (instance (getD s at 0) ts) e))
+instance-at n s k at =
+    when (leb (getD s (at + 1) 0) 4)
+    (then (terms-at n (getD s (at + 1) 0) s k (at + 2)) (λ ts e. some (instance (getD s at 0) ts) e))
 
 module _ (n : ℕ) (s : List ℕ) (k q at : ℕ) where
   pub shape-no-formula : kind-of (getD s at 0) ≡ NoFormula → formula-at (suc n) s k q at ≡ none
   unfolding formula-at formula-of-kind
   shape-no-formula h = rw h refl
 
-  pub shape-constant : (b : Bool) → kind-of (getD s at 0) ≡ Constant b → formula-at (suc n) s k q at ≡ some (constant b) (at + 1)
+  pub shape-constant : (b : Bool) → kind-of (getD s at 0) ≡ Constant b
+      → formula-at (suc n) s k q at ≡ some (constant b) (at + 1)
   unfolding formula-at formula-of-kind
   shape-constant b h = rw (h, operands-constant (getD s at 0) b h) refl
 
-  pub shape-join : (all : Bool) → kind-of (getD s at 0) ≡ Join all → formula-at (suc n) s k q at ≡ then (formula-at n s k q (at + 1)) (λ f m. then (formula-at n s k q m) (λ g e. some (joined all f g) e))
+  pub shape-join : (all : Bool) → kind-of (getD s at 0) ≡ Join all
+      → formula-at (suc n) s k q at ≡ then (formula-at n s k q (at + 1)) (λ f m. then (formula-at n s k q m) (λ g e. some (joined all f g) e))
   unfolding formula-at formula-of-kind
-  shape-join all h = rw (h, operands-join (getD s at 0) all h, two-in-row (formula-at n s k q) (constant false) (joined all) (at + 1)) refl
+  shape-join all h =
+      rw (h, operands-join (getD s at 0) all h, two-in-row (formula-at n s k q) (constant false) (joined all) (at + 1)) refl
 
-  pub shape-quantifier : (all : Bool) → kind-of (getD s at 0) ≡ Quantifier all → formula-at (suc n) s k q at ≡ when (ltb q 4) (when (is-range (getD s (at + 1) 0)) (then (formula-at n s (k + 1) (q + 1) (at + 2)) (λ f e. some (quantified all (getD s (at + 1) 0) f) e)))
+  pub shape-quantifier : (all : Bool) → kind-of (getD s at 0) ≡ Quantifier all
+      → formula-at (suc n) s k q at ≡ when (ltb q 4) (when (is-range (getD s (at + 1) 0))
+      (then (formula-at n s (k + 1) (q + 1) (at + 2)) (λ f e. some (quantified all (getD s (at + 1) 0) f) e)))
   unfolding formula-at formula-of-kind
-  shape-quantifier all h = rw (h, operands-quantifier (getD s at 0) all h, one-in-row (formula-at n s (k + 1) (q + 1)) (constant false) (quantified all (getD s (at + 1) 0)) (at + 2)) refl
+  shape-quantifier all h =
+      rw (h, operands-quantifier (getD s at 0) all h, one-in-row (formula-at n s (k + 1) (q + 1)) (constant false) (quantified all (getD s (at + 1) 0)) (at + 2)) refl
 
-  pub shape-compare : (t : Test) → kind-of (getD s at 0) ≡ Compare t → formula-at (suc n) s k q at ≡ compared-at n t s k (at + 1)
+  pub shape-compare : (t : Test) → kind-of (getD s at 0) ≡ Compare t
+      → formula-at (suc n) s k q at ≡ compared-at n t s k (at + 1)
   unfolding formula-at formula-of-kind
-  shape-compare t h = rw (h, operands-compare (getD s at 0) t h, two-in-row (term-at n s k) (number 0) (compared (test-of t)) (at + 1)) refl
+  shape-compare t h =
+      rw (h, operands-compare (getD s at 0) t h, two-in-row (term-at n s k) (number 0) (compared (test-of t)) (at + 1)) refl
 
-  pub shape-instance : kind-of (getD s at 0) ≡ Instance → formula-at (suc n) s k q at ≡ instance-at n s k (at + 1)
+  pub shape-instance : kind-of (getD s at 0) ≡ Instance
+      → formula-at (suc n) s k q at ≡ instance-at n s k (at + 1)
   unfolding formula-at formula-of-kind
   shape-instance h =
       let x : at + 1 + 1 ≡ at + 2 = omega arith in

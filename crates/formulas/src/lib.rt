@@ -1,9 +1,9 @@
 // The reader of formulas: whether the bytes of a body are one formula, and whether the instances in it fit the equations.
-ghost use mathlib.Core.Bool.{true, false, _&&_};
+ghost use mathlib.Core.Bool.{true, false};
 ghost use mathlib.Core.Path.{_≡_};
 ghost use mathlib.Core.List.{[], _∷_, _++_};
 ghost use Prim.Native.Nat.{_+_, _≤_, _<_};
-ghost use lib.ListN.{length, take, drop, getD};
+ghost use lib.ListN.{length, drop, getD};
 ghost use Rattle.meaning.specs.Ranges.{is-range, fits};
 ghost use Rattle.digits.specs.Digits.{bytes-at};
 ghost use Rattle.formulas.specs.Codes.{row-of, kind-of, term-kind-of, operands-of};
@@ -162,6 +162,12 @@ pub struct Scope {
     pub count: usize,
 }
 
+// Where the bytes of a body stand: the place of the first digit, and how many bytes there are.
+struct Body {
+    place: usize,
+    size: usize,
+}
+
 // Whether a term was read, its range, and where it ends.
 struct TermSpan {
     ok: bool,
@@ -245,72 +251,50 @@ pub fn is_range(r: u8) -> bool
     digits::and(1 <= r, r <= 16)
 }
 
-fn no_term(at: usize) -> TermSpan
-    ensures { λ r. ⌜ (r .ok ≡ false) × (r .next ≡ at) ⌝ }
+fn term_result(ok: bool, range: u8, next: usize) -> TermSpan
+    ensures { λ r. ⌜ (r .ok ≡ ok) × ((r .range ≡ range) × (r .next ≡ next)) ⌝ }
 {
-    TermSpan {
-        ok: false,
-        range: 0,
-        next: at,
-    }
+    TermSpan { ok, range, next }
 }
 
-fn no_span(at: usize) -> Span
-    ensures { λ r. ⌜ (r .ok ≡ false) × (r .next ≡ at) ⌝ }
+fn result(ok: bool, fits: bool, next: usize) -> Span
+    ensures { λ r. ⌜ (r .ok ≡ ok) × ((r .fits ≡ fits) × (r .next ≡ next)) ⌝ }
 {
-    Span {
-        ok: false,
-        fits: false,
-        next: at,
-    }
+    Span { ok, fits, next }
 }
 
-// The term at `at` of a body of `size` bytes whose digits start at `place`.
-fn read_term(text: &[u8], place: usize, size: usize, at: usize, scope: Scope) -> TermSpan
-    requires { ⌜ (size ≤ 256) × (scope .count ≤ 8) ⌝ }
-    ensures { λ r. ⌜ TermTold (bytes-at (now (text .entry)) place size) scope at (r .ok) (r .range) (r .next) ⌝ }
+// The term at `at` of a body.
+fn read_term(text: &[u8], body: Body, at: usize, scope: Scope) -> TermSpan
+    requires { ⌜ (body .size ≤ 256) × (scope .count ≤ 8) ⌝ }
+    ensures { λ r. ⌜ TermTold (bytes-at (now (text .entry)) (body .place) (body .size)) scope at (r .ok) (r .range) (r .next) ⌝ }
 {
-    if size <= at {
-        return no_term(at);
+    if body.size <= at {
+        return term_result(false, 0, at);
     }
-    let code = digits::byte(text, place, size, at);
-    let x = digits::byte(text, place, size, at + 1);
+    let code = digits::byte(text, body.place, body.size, at);
+    let x = digits::byte(text, body.place, body.size, at + 1);
     let operands = operands_of(code);
     let after = 1 + digits::wide(operands);
     let next = at + after;
     let kind = term_kind_of(code);
     match kind {
-        TermKind::NoTerm => no_term(at),
+        TermKind::NoTerm => term_result(false, 0, at),
         TermKind::Number => {
             if 15 < x {
-                return no_term(at);
+                return term_result(false, 0, at);
             }
-            let range = x + 1;
-            TermSpan {
-                ok: true,
-                range,
-                next,
-            }
+            term_result(true, x + 1, next)
         }
         TermKind::Variable => {
             let i = digits::wide(x);
-            TermSpan {
-                ok: i < scope.count,
-                range: variable(scope, x),
-                next,
-            }
+            term_result(i < scope.count, variable(scope, x), next)
         }
         TermKind::Calculation(_) => {
             if !is_range(x) {
-                return no_term(at);
+                return term_result(false, 0, at);
             }
-            let inside = operands - 1;
-            let a = read_terms(text, place, size, at + 2, scope, inside, scope, 0);
-            TermSpan {
-                ok: a.ok,
-                range: x,
-                next: a.next,
-            }
+            let a = read_terms(text, body, at + 2, scope, operands - 1, scope, 0);
+            term_result(a.ok, x, a.next)
         }
     }
 }
@@ -318,40 +302,30 @@ fn read_term(text: &[u8], place: usize, size: usize, at: usize, scope: Scope) ->
 // c terms in a row, as arguments for the parameters of a signature from number j on.
 fn read_terms(
     text: &[u8],
-    place: usize,
-    size: usize,
+    body: Body,
     at: usize,
     scope: Scope,
     c: u8,
     signature: Scope,
     j: u8,
 ) -> Span
-    requires { ⌜ (size ≤ 256) × ((scope .count ≤ 8) × ((signature .count ≤ 8) × (j + c ≤ 255))) ⌝ }
-    ensures { λ r. ⌜ TermsTold (drop j (seen signature)) c (bytes-at (now (text .entry)) place size) scope at (r .ok) (r .fits) (r .next) ⌝ }
+    requires { ⌜ (body .size ≤ 256) × ((scope .count ≤ 8) × ((signature .count ≤ 8) × (j + c ≤ 255))) ⌝ }
+    ensures { λ r. ⌜ TermsTold (drop j (seen signature)) c (bytes-at (now (text .entry)) (body .place) (body .size)) scope at (r .ok) (r .fits) (r .next) ⌝ }
 {
     let i = digits::wide(j);
     if c == 0 {
-        return Span {
-            ok: true,
-            fits: signature.count <= i,
-            next: at,
-        };
+        return result(true, signature.count <= i, at);
     }
-    let a = read_term(text, place, size, at, scope);
+    let a = read_term(text, body, at, scope);
     let m = a.next;
     if !a.ok {
-        return no_span(m);
+        return result(false, false, m);
     }
-    let b = read_terms(text, place, size, m, scope, c - 1, signature, j + 1);
+    let b = read_terms(text, body, m, scope, c - 1, signature, j + 1);
     let p = variable(signature, j);
-    let rest = b.fits;
-    let this = digits::and(a.range <= p, rest);
-    let fits = digits::and(i < signature.count, this);
-    Span {
-        ok: b.ok,
-        fits,
-        next: b.next,
-    }
+    let rest = digits::and(a.range <= p, b.fits);
+    let fits = digits::and(i < signature.count, rest);
+    result(b.ok, fits, b.next)
 }
 
 // The ranges of an equation's parameters.
@@ -374,86 +348,64 @@ fn nth(equations: [Equation; 8], i: usize) -> Equation
 // The instance whose code stands at `at` and whose arguments start at `first`.
 fn read_instance(
     text: &[u8],
-    place: usize,
-    size: usize,
+    body: Body,
     at: usize,
     first: usize,
     scope: Scope,
     equations: [Equation; 8],
     count: usize,
 ) -> Span
-    requires { ⌜ (size ≤ 256) × ((at ≤ size) × ((at ≤ first) × ((scope .count ≤ 8) × (count ≤ 8)))) ⌝ }
-    ensures { λ r. ⌜ InstanceTold (signatures-of equations count) (bytes-at (now (text .entry)) place size) scope at first (r .ok) (r .fits) (r .next) ⌝ }
+    requires { ⌜ (body .size ≤ 256) × ((at ≤ body .size) × ((at ≤ first) × ((scope .count ≤ 8) × (count ≤ 8)))) ⌝ }
+    ensures { λ r. ⌜ InstanceTold (signatures-of equations count) (bytes-at (now (text .entry)) (body .place) (body .size)) scope at first (r .ok) (r .fits) (r .next) ⌝ }
 {
-    let x = digits::wide(digits::byte(text, place, size, at + 1));
-    let c = digits::byte(text, place, size, at + 2);
+    let x = digits::wide(digits::byte(text, body.place, body.size, at + 1));
+    let c = digits::byte(text, body.place, body.size, at + 2);
     if 4 < c {
-        return no_span(at);
+        return result(false, false, at);
     }
     let signature = signature_of(nth(equations, x));
-    let a = read_terms(text, place, size, first, scope, c, signature, 0);
-    let rest = a.fits;
-    let fits = digits::and(x < count, rest);
-    Span {
-        ok: a.ok,
-        fits,
-        next: a.next,
-    }
+    let a = read_terms(text, body, first, scope, c, signature, 0);
+    let fits = digits::and(x < count, a.fits);
+    result(a.ok, fits, a.next)
 }
 
 // The formula at `at`, with q quantifiers around it; `scope` has the ranges of the variables in reach.
 fn read_formula(
     text: &[u8],
-    place: usize,
-    size: usize,
+    body: Body,
     at: usize,
     scope: Scope,
     q: usize,
     equations: [Equation; 8],
     count: usize,
 ) -> Span
-    requires { ⌜ (size ≤ 256) × ((scope .count ≤ 4 + q) × ((q ≤ 4) × (count ≤ 8))) ⌝ }
-    ensures { λ r. ⌜ FormulaTold (signatures-of equations count) (bytes-at (now (text .entry)) place size) scope q at (r .ok) (r .fits) (r .next) ⌝ }
+    requires { ⌜ (body .size ≤ 256) × ((scope .count ≤ 4 + q) × ((q ≤ 4) × (count ≤ 8))) ⌝ }
+    ensures { λ r. ⌜ FormulaTold (signatures-of equations count) (bytes-at (now (text .entry)) (body .place) (body .size)) scope q at (r .ok) (r .fits) (r .next) ⌝ }
 {
-    if size <= at {
-        return no_span(at);
+    if body.size <= at {
+        return result(false, false, at);
     }
-    let code = digits::byte(text, place, size, at);
+    let code = digits::byte(text, body.place, body.size, at);
     let operands = operands_of(code);
     let after = 1 + digits::wide(operands);
     let next = at + after;
     let kind = kind_of(code);
     match kind {
-        Kind::NoFormula => no_span(at),
-        Kind::Constant(_) => Span {
-            ok: true,
-            fits: true,
-            next,
-        },
-        Kind::Join(_) => read_formulas(
-            text,
-            place,
-            size,
-            at + 1,
-            scope,
-            q,
-            equations,
-            count,
-            operands,
-        ),
+        Kind::NoFormula => result(false, false, at),
+        Kind::Constant(_) => result(true, true, next),
+        Kind::Join(_) => read_formulas(text, body, at + 1, scope, q, equations, count, operands),
         Kind::Quantifier(_) => {
             if 4 <= q {
-                return no_span(at);
+                return result(false, false, at);
             }
-            let r = digits::byte(text, place, size, at + 1);
+            let r = digits::byte(text, body.place, body.size, at + 1);
             if !is_range(r) {
-                return no_span(at);
+                return result(false, false, at);
             }
             let inner = push(scope, r);
             read_formulas(
                 text,
-                place,
-                size,
+                body,
                 at + 2,
                 inner,
                 q + 1,
@@ -463,22 +415,17 @@ fn read_formula(
             )
         }
         Kind::Compare(_) => {
-            let a = read_terms(text, place, size, at + 1, scope, operands, scope, 0);
-            Span {
-                ok: a.ok,
-                fits: true,
-                next: a.next,
-            }
+            let a = read_terms(text, body, at + 1, scope, operands, scope, 0);
+            result(a.ok, true, a.next)
         }
-        Kind::Instance => read_instance(text, place, size, at, next, scope, equations, count),
+        Kind::Instance => read_instance(text, body, at, next, scope, equations, count),
     }
 }
 
 // c formulas in a row.
 fn read_formulas(
     text: &[u8],
-    place: usize,
-    size: usize,
+    body: Body,
     at: usize,
     scope: Scope,
     q: usize,
@@ -486,44 +433,36 @@ fn read_formulas(
     count: usize,
     c: u8,
 ) -> Span
-    requires { ⌜ (size ≤ 256) × ((scope .count ≤ 4 + q) × ((q ≤ 4) × (count ≤ 8))) ⌝ }
-    ensures { λ r. ⌜ FormulasTold (signatures-of equations count) c (bytes-at (now (text .entry)) place size) scope q at (r .ok) (r .fits) (r .next) ⌝ }
+    requires { ⌜ (body .size ≤ 256) × ((scope .count ≤ 4 + q) × ((q ≤ 4) × (count ≤ 8))) ⌝ }
+    ensures { λ r. ⌜ FormulasTold (signatures-of equations count) c (bytes-at (now (text .entry)) (body .place) (body .size)) scope q at (r .ok) (r .fits) (r .next) ⌝ }
 {
     if c == 0 {
-        return Span {
-            ok: true,
-            fits: true,
-            next: at,
-        };
+        return result(true, true, at);
     }
-    let a = read_formula(text, place, size, at, scope, q, equations, count);
+    let a = read_formula(text, body, at, scope, q, equations, count);
     let m = a.next;
     if !a.ok {
-        return no_span(m);
+        return result(false, false, m);
     }
-    let b = read_formulas(text, place, size, m, scope, q, equations, count, c - 1);
-    let first = a.fits;
-    let rest = b.fits;
-    let fits = digits::and(first, rest);
-    Span {
-        ok: b.ok,
-        fits,
-        next: b.next,
-    }
+    let b = read_formulas(text, body, m, scope, q, equations, count, c - 1);
+    let fits = digits::and(a.fits, b.fits);
+    result(b.ok, fits, b.next)
 }
 
 // What stands in the body of e.
 fn read_body(text: &[u8], e: Equation, equations: [Equation; 8], count: usize) -> Span
     ensures { λ r. ⌜ Told (λ f. fits (signatures-of equations count) f (ranges-of e)) (r .fits) (r .next) (body-at (now (text .entry)) e) (r .ok) ⌝ }
 {
-    let place = e.place;
-    let size = e.length;
-    if 256 < size {
-        return no_span(0);
+    let body = Body {
+        place: e.place,
+        size: e.length,
+    };
+    if 256 < body.size {
+        return result(false, false, 0);
     }
     let scope = signature_of(e);
     let known = digits::smaller(count, 8);
-    read_formula(text, place, size, 0, scope, 0, equations, known)
+    read_formula(text, body, 0, scope, 0, equations, known)
 }
 
 // Whether the body of e is one formula.

@@ -2,7 +2,7 @@
 -- A text has no more lines than characters; every line that is named is one of them, or one more.
 use Prim.Native.Nat.{ℕ, zero, suc, _+_, _/_, _≤_}
 use native.Mathlib.Omega.{arith}
-use mathlib.Core.Path.{_≡_, refl, sym}
+use mathlib.Core.Path.{_≡_, refl}
 use mathlib.Core.Bool.{Bool, true, false, cond, not, _&&_}
 use mathlib.Core.List.{List, [], _∷_}
 use lib.Dec.{eqb, ltb, leb, lit≤}
@@ -16,7 +16,7 @@ use Rattle.reading.specs.declared.Reading.{Reading}
 use Rattle.reading.specs.Lines.{Line, before, lines-of, all-digits}
 use Rattle.reading.specs.Frames.{head-right, equation-record, start-record}
 use Rattle.reading.specs.Models.{no-model, with-equation, with-start, start-right}
-use Rattle.reading.specs.Reading.{refused, accepted, unless, then, read-equation, read-start, read-frame, is-shaped, read-line, start-judged, instances-judged, finished, read-lines, reading}
+use Rattle.reading.specs.Reading.{refused, accepted, unless, read-equation, read-start, read-frame, is-shaped, read-line, start-judged, instances-judged, finished, read-lines, reading}
 
 before-length : (p c : ℕ) (ls : List Line) → length (before p c ls) ≤ suc (length ls)
 before-length p c [] = omega arith

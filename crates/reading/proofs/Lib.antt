@@ -1,8 +1,8 @@
+pub mod Answers
+pub mod Bounds
 pub mod Ends
 pub mod Heads
-pub mod Steps
-pub mod Turns
-pub mod Starts
 pub mod Sound
+pub mod Starts
+pub mod Turns
 pub mod WellFormed
-pub mod Bounds

@@ -3,10 +3,10 @@
 use Prim.Native.Nat.{ℕ, zero, suc, _+_, _-_, _/_, _≤_, _<_}
 use native.Mathlib.Omega.{arith}
 use native.Mathlib.Decide.{ℕ-discrete}
-use mathlib.Core.Path.{_≡_, refl, sym, ap, _∙_}
+use mathlib.Core.Path.{_≡_, refl, _∙_}
 use mathlib.Core.Bool.{Bool, true, false, cond, not, _&&_}
 use mathlib.Core.List.{List, [], _∷_}
-use lib.ListN.{length, getD, set, length-set}
+use lib.ListN.{length, getD, length-set}
 use lib.Seq.{getD-set-same, getD-set-other}
 use lib.Dec.{eqb, ltb, leb, lit≤}
 use borrow.Author.Tests.{ltb-true, leb-true, eqb-false}
@@ -19,7 +19,7 @@ use Rattle.reading.specs.declared.Reading.{Reading}
 use Rattle.reading.specs.Lines.{Line, lines-of, all-digits}
 use Rattle.reading.specs.Frames.{head-right, equation-record, start-record}
 use Rattle.reading.specs.Models.{no-model, with-equation, with-start, start-right}
-use Rattle.reading.specs.Reading.{refused, accepted, unless, then, read-equation, read-start, read-frame, is-shaped, read-line, start-judged, instances-judged, finished, read-lines, reading}
+use Rattle.reading.specs.Reading.{refused, accepted, unless, read-equation, read-start, read-frame, is-shaped, read-line, start-judged, instances-judged, finished, read-lines, reading}
 
 &&-left : (a b : Bool) → a && b ≡ true → a ≡ true
 &&-left true b h = refl

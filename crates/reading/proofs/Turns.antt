@@ -1,20 +1,19 @@
 -- The reading of what is left, from the present state, one line further.
 -- The lines of a text are its first line and the lines after it, by induction on the text.
-use Prim.Native.Nat.{ℕ, zero, suc, _+_, _-_, _≤_, _<_}
+use Prim.Native.Nat.{ℕ, suc, _+_, _-_, _≤_, _<_}
 use native.Mathlib.Omega.{arith}
-use native.Mathlib.Numerals.{add-one}
-use mathlib.Core.Path.{_≡_, refl, sym, ap, _∙_}
-use mathlib.Core.Bool.{Bool, true, false, cond}
+use mathlib.Core.Path.{_≡_, refl, sym, _∙_}
+use mathlib.Core.Bool.{Bool, true, false}
 use mathlib.Core.List.{List, [], _∷_}
-use lib.ListN.{length, getD, take, drop, length-drop, drop-of-length-le}
+use lib.ListN.{length, take, drop, length-drop, drop-of-length-le}
 use lib.Seq.{drop-drop}
-use lib.Dec.{eqb, ltb, leb, leb·suc-suc}
+use lib.Dec.{eqb, ltb, leb·suc-suc}
 use borrow.Author.Tests.{eq-eqb, ne-eqb, le-leb, lt-leb, lt-ltb, le-ltb, ltb-true, ltb-false}
 use Rattle.reading.specs.declared.Model.{Model}
 use Rattle.reading.specs.declared.Reading.{Reading}
-use Rattle.reading.specs.Lines.{Line, before, lines-of, first-length}
+use Rattle.reading.specs.Lines.{Line, lines-of, first-length}
 use Rattle.reading.specs.Models.{no-model}
-use Rattle.reading.specs.Reading.{refused, unless, then, read-line, line-at, read-lines, finished, reading}
+use Rattle.reading.specs.Reading.{refused, read-line, line-at, read-lines, finished, reading}
 
 -- the first line of a text
 abbrev first : ℕ → List ℕ → Line

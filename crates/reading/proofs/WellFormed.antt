@@ -2,11 +2,11 @@
 -- What each refusal leaves, `Sound` and `Right`, put together.
 use Prim.Native.Nat.{ℕ, zero, suc, _≤_, _<_}
 use native.Mathlib.Omega.{arith}
-use mathlib.Core.Path.{_≡_, refl, sym, ap, _∙_}
-use mathlib.Core.Bool.{Bool, true, _&&_}
+use mathlib.Core.Path.{_≡_, refl, ap}
+use mathlib.Core.Bool.{true, _&&_}
 use mathlib.Core.List.{List, [], _∷_, map}
-use lib.Dec.{ltb, leb}
-use lib.ListN.{length, getD, take, length-take, length-map}
+use lib.Dec.{leb}
+use lib.ListN.{length, getD, take, length-map}
 use lib.Seq.{length-take-le, getD-take}
 use borrow.Author.Tests.{le-leb}
 use Rattle.digits.specs.Digits.{bytes-at}

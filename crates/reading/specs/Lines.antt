@@ -17,10 +17,14 @@ abbrev pub before : ℕ → ℕ → List Line → List Line
 before p c [] = record { place = p; characters = c ∷ []; ended = false } ∷ []
 before p c (l ∷ ls) = record { place = p; characters = c ∷ l .characters; ended = l .ended } ∷ ls
 
+-- the same for any character: byte 0a gives an empty line, ended
+abbrev pub in-front : ℕ → ℕ → List Line → List Line
+in-front p c ls = cond (eqb c 0x0a) (record { place = p; characters = []; ended = true } ∷ ls) (before p c ls)
+
 -- the lines of what stands from place p on: each ends at its 0a, the last one perhaps with the text
 unfoldable pub lines-of : ℕ → List ℕ → List Line
 lines-of p [] = []
-lines-of p (c ∷ s) = cond (eqb c 0x0a) (record { place = p; characters = []; ended = true } ∷ lines-of (p + 1) s) (before p c (lines-of (p + 1) s))
+lines-of p (c ∷ s) = in-front p c (lines-of (p + 1) s)
 
 unfoldable pub all-digits : List ℕ → Bool
 all-digits [] = true

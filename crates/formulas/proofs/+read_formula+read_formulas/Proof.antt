@@ -12,8 +12,9 @@ use Rattle.formulas.specs.Codes.{kind-of, operands-of}
 use Rattle.formulas.specs.Shapes.{no-kind, operands-quantifier, operands-compare}
 use Rattle.formulas.specs.Scopes.{seen}
 use Rattle.formulas.specs.Bodies.{signatures-of}
-use Rattle.formulas.proofs.Laws.{told-no-formula, told-constant, told-join, told-quantifier-deep, told-quantifier-no, told-quantifier, told-compare, told-instance, told-all-read, told-next, told-next-stop}
-use Prim.Native.Nat.{ℕ, _<_, _≤_, _+_, _-_, _*_}
+use Rattle.formulas.proofs.Laws.{told-no-formula, told-constant, told-join, told-quantifier-deep, told-quantifier-no}
+use Rattle.formulas.proofs.Laws.{told-quantifier, told-compare, told-instance, told-all-read, told-next, told-next-stop}
+use Prim.Native.Nat.{ℕ, suc, _<_, _+_, _-_, _*_}
 use borrow.Fn.Kinds.{In}
 use borrow.Fn.PlainCycle.{Measures, is, falls, and}
 use Rattle.formulas.proofs.read_formula.Reads as read-formula
@@ -27,19 +28,19 @@ use Rattle.digits.proofs.byte.Reads as byte-reads
 use Rattle.digits.proofs.wide.Reads as wide-reads
 use Rattle.formulas.proofs.is_range.Reads as is-range-reads
 use Rattle.formulas.proofs.kind_of.Reads as kind-of-reads
-use Rattle.formulas.proofs.no_span.Reads as no-span-reads
 use Rattle.formulas.proofs.operands_of.Reads as operands-of-reads
 use Rattle.formulas.proofs.push.Reads as push-reads
 use Rattle.formulas.proofs.read_instance.Reads as read-instance-reads
 use Rattle.formulas.proofs.read_terms.Reads as read-terms-reads
+use Rattle.formulas.proofs.result.Reads as result-reads
 use Rattle.formulas.proofs.+read_formula+read_formulas.{statement}
 use Rattle.formulas.proofs.+read_formula+read_formulas.Tie.{close}
 
 abbrev μ-read-formula : Measures 1 read-formula-kinds.ps ℕ
-μ-read-formula κs a = (a .1 .1 .0 - a .1 .1 .1 .0) * 512
+μ-read-formula κs a = (a .1 .0 .size - a .1 .1 .0) * 512
 
 abbrev μ-read-formulas : Measures 1 read-formulas-kinds.ps ℕ
-μ-read-formulas κs a = (a .1 .1 .0 - a .1 .1 .1 .0) * 512 + a .1 .1 .1 .1 .1 .1 .1 .1 .0 + 1
+μ-read-formulas κs a = (a .1 .0 .size - a .1 .1 .0) * 512 + a .1 .1 .1 .1 .1 .1 .1 .0 + 1
 
 abbrev read-formula-at : ℕ → In 1 read-formula-kinds.ps
 read-formula-at t =
@@ -66,20 +67,21 @@ read-formulas-below t =
     read-formulas.Pre
 
 abbrev read-formula-calls : ℕ → read-formula-lts.Claims
-read-formula-calls t = (no-span-reads.Asked, no-span-reads.Learnt, byte-reads.Asked, byte-reads.Learnt, operands-of-reads.Asked, operands-of-reads.Learnt, wide-reads.Asked, wide-reads.Learnt, kind-of-reads.Asked, kind-of-reads.Learnt, read-formulas-below t, read-formulas.Post, is-range-reads.Asked, is-range-reads.Learnt, push-reads.Asked, push-reads.Learnt, read-terms-reads.Asked, read-terms-reads.Learnt, read-instance-reads.Asked, read-instance-reads.Learnt)
+read-formula-calls t = (result-reads.Asked, result-reads.Learnt, byte-reads.Asked, byte-reads.Learnt, operands-of-reads.Asked, operands-of-reads.Learnt, wide-reads.Asked, wide-reads.Learnt, kind-of-reads.Asked, kind-of-reads.Learnt, read-formulas-below t, read-formulas.Post, is-range-reads.Asked, is-range-reads.Learnt, push-reads.Asked, push-reads.Learnt, read-terms-reads.Asked, read-terms-reads.Learnt, read-instance-reads.Asked, read-instance-reads.Learnt)
 
 abbrev read-formulas-calls : ℕ → read-formulas-lts.Claims
-read-formulas-calls t = (read-formula-below t, read-formula.Post, no-span-reads.Asked, no-span-reads.Learnt, read-formulas-below t, read-formulas.Post, and-reads.Asked, and-reads.Learnt)
+read-formulas-calls t = (result-reads.Asked, result-reads.Learnt, read-formula-below t, read-formula.Post, read-formulas-below t, read-formulas.Post, and-reads.Asked, and-reads.Learnt)
 
-read-formula-no-span-requires : (t : ℕ) → read-formula-lts.Need-no-span-requires (read-formula-calls t) (read-formula-at t) read-formula.Post
-read-formula-no-span-requires t c κs = search needs
+read-formula-result-requires : (t : ℕ) → read-formula-lts.Need-result-requires (read-formula-calls t) (read-formula-at t) read-formula.Post
+read-formula-result-requires t c κs = search needs
 
 read-formula-returns : (t : ℕ) → read-formula-lts.Need-returns (read-formula-calls t) (read-formula-at t) read-formula.Post
 read-formula-returns t c =
-    let a = c .before .before .before .args in
-    let s = bytes-at (a .text .now) (a .place) (a .size) in
-    let z : getD s (a .at) 0 ≡ 0 = byte-beyond (a .text .now) (a .place) (a .size) (a .at) (c .before .if1 .taken) in
-    record { on = omega (arith, c .no-span .ensures .1); tells = λ n l. rw (c .no-span .ensures .0) (told-no-formula s (a .scope .count) (a .q) (a .at) (seen (a .scope)) (signatures-of (a .equations) (a .count)) _ _ n (rw z no-kind)) }
+    let a = c .before .before .before .before .args in
+    let s = bytes-at (a .text .now) (a .body .place) (a .body .size) in
+    let z : getD s (a .at) 0 ≡ 0 = byte-beyond (a .text .now) (a .body .place) (a .body .size) (a .at) (c .before .if1 .taken) in
+    let r = c .result .ensures in
+    rw (r .0, r .1 .0, r .1 .1) (record { on = omega arith; tells = λ n l. told-no-formula s (a .scope .count) (a .q) (a .at) (seen (a .scope)) (signatures-of (a .equations) (a .count)) _ _ n (rw z no-kind) })
 
 read-formula-byte-requires : (t : ℕ) → read-formula-lts.Need-byte-requires (read-formula-calls t) (read-formula-at t) read-formula.Post
 read-formula-byte-requires t c κs = search needs
@@ -102,11 +104,14 @@ read-formula-kind-of-requires t c κs = search needs
 read-formula-enum-told : (t : ℕ) → read-formula-lts.Need-enum-told (read-formula-calls t) (read-formula-at t) read-formula.Post
 read-formula-enum-told t c = search needs
 
-read-formula-no-span-requires-2 : (t : ℕ) → read-formula-lts.Need-no-span-requires-2 (read-formula-calls t) (read-formula-at t) read-formula.Post
-read-formula-no-span-requires-2 t c κs = search needs
+read-formula-result-requires-2 : (t : ℕ) → read-formula-lts.Need-result-requires-2 (read-formula-calls t) (read-formula-at t) read-formula.Post
+read-formula-result-requires-2 t c κs = search needs
 
 read-formula-enum-told-2 : (t : ℕ) → read-formula-lts.Need-enum-told-2 (read-formula-calls t) (read-formula-at t) read-formula.Post
 read-formula-enum-told-2 t c = search needs
+
+read-formula-result-requires-3 : (t : ℕ) → read-formula-lts.Need-result-requires-3 (read-formula-calls t) (read-formula-at t) read-formula.Post
+read-formula-result-requires-3 t c κs = search needs
 
 read-formula-enum-told-3 : (t : ℕ) → read-formula-lts.Need-enum-told-3 (read-formula-calls t) (read-formula-at t) read-formula.Post
 read-formula-enum-told-3 t c = search needs
@@ -120,16 +125,17 @@ read-formula-read-formulas-requires t c κs = omega (arith, c .before .before .b
 read-formula-enum-told-4 : (t : ℕ) → read-formula-lts.Need-enum-told-4 (read-formula-calls t) (read-formula-at t) read-formula.Post
 read-formula-enum-told-4 t c = search needs
 
-read-formula-no-span-requires-3 : (t : ℕ) → read-formula-lts.Need-no-span-requires-3 (read-formula-calls t) (read-formula-at t) read-formula.Post
-read-formula-no-span-requires-3 t c κs = search needs
+read-formula-result-requires-4 : (t : ℕ) → read-formula-lts.Need-result-requires-4 (read-formula-calls t) (read-formula-at t) read-formula.Post
+read-formula-result-requires-4 t c κs = search needs
 
 read-formula-returns-2 : (t : ℕ) → read-formula-lts.Need-returns-2 (read-formula-calls t) (read-formula-at t) read-formula.Post
 read-formula-returns-2 t c =
-    let a = c .before .before .before .before .before .before .before .before .before .before .args in
-    let s = bytes-at (a .text .now) (a .place) (a .size) in
-    let i : a .at < length s = omega (arith, length-bytes (a .text .now) (a .place) (a .size), c .before .before .before .before .before .before .before .before .if1 .left) in
+    let a = c .before .before .before .before .before .before .before .before .before .before .before .args in
+    let s = bytes-at (a .text .now) (a .body .place) (a .body .size) in
+    let i : a .at < length s = omega (arith, length-bytes (a .text .now) (a .body .place) (a .body .size), c .before .before .before .before .before .before .before .before .if1 .left) in
     let k = ap kind-of (sym (c .before .before .before .before .before .before .before .byte .ensures)) ∙ sym (c .before .before .before .before .kind-of .ensures) ∙ c .before .before .enum-told4 .given .1 in
-    record { on = omega (arith, c .no-span3 .ensures .1); tells = λ n l. rw (c .no-span3 .ensures .0) (told-quantifier-deep s (a .scope .count) (a .q) (a .at) (seen (a .scope)) (signatures-of (a .equations) (a .count)) _ _ n l i _ k (c .before .if2 .taken)) }
+    let r = c .result4 .ensures in
+    rw (r .0, r .1 .0, r .1 .1) (record { on = omega arith; tells = λ n l. told-quantifier-deep s (a .scope .count) (a .q) (a .at) (seen (a .scope)) (signatures-of (a .equations) (a .count)) _ _ n l i _ k (c .before .if2 .taken) })
 
 read-formula-add-byte : (t : ℕ) → read-formula-lts.Need-add-byte (read-formula-calls t) (read-formula-at t) read-formula.Post
 read-formula-add-byte t c = search needs
@@ -140,17 +146,18 @@ read-formula-byte-requires-2 t c κs = search needs
 read-formula-is-range-requires : (t : ℕ) → read-formula-lts.Need-is-range-requires (read-formula-calls t) (read-formula-at t) read-formula.Post
 read-formula-is-range-requires t c κs = search needs
 
-read-formula-no-span-requires-4 : (t : ℕ) → read-formula-lts.Need-no-span-requires-4 (read-formula-calls t) (read-formula-at t) read-formula.Post
-read-formula-no-span-requires-4 t c κs = search needs
+read-formula-result-requires-5 : (t : ℕ) → read-formula-lts.Need-result-requires-5 (read-formula-calls t) (read-formula-at t) read-formula.Post
+read-formula-result-requires-5 t c κs = search needs
 
 read-formula-returns-3 : (t : ℕ) → read-formula-lts.Need-returns-3 (read-formula-calls t) (read-formula-at t) read-formula.Post
 read-formula-returns-3 t c =
-    let a = c .before .before .before .before .before .before .before .before .before .before .before .before .before .args in
-    let s = bytes-at (a .text .now) (a .place) (a .size) in
-    let i : a .at < length s = omega (arith, length-bytes (a .text .now) (a .place) (a .size), c .before .before .before .before .before .before .before .before .before .before .before .if1 .left) in
+    let a = c .before .before .before .before .before .before .before .before .before .before .before .before .before .before .args in
+    let s = bytes-at (a .text .now) (a .body .place) (a .body .size) in
+    let i : a .at < length s = omega (arith, length-bytes (a .text .now) (a .body .place) (a .body .size), c .before .before .before .before .before .before .before .before .before .before .before .if1 .left) in
     let k = ap kind-of (sym (c .before .before .before .before .before .before .before .before .before .before .byte .ensures)) ∙ sym (c .before .before .before .before .before .before .before .kind-of .ensures) ∙ c .before .before .before .before .before .enum-told4 .given .1 in
-    let r = ap is-range (sym (c .before .before .before .byte2 .ensures)) ∙ sym (c .before .before .is-range .ensures) ∙ not-true _ (c .before .if3 .taken) in
-    record { on = omega (arith, c .no-span4 .ensures .1); tells = λ n l. rw (c .no-span4 .ensures .0) (told-quantifier-no s (a .scope .count) (a .q) (a .at) (seen (a .scope)) (signatures-of (a .equations) (a .count)) _ _ n l i _ k (c .before .before .before .before .if2 .left) r) }
+    let h = ap is-range (sym (c .before .before .before .byte2 .ensures)) ∙ sym (c .before .before .is-range .ensures) ∙ not-true _ (c .before .if3 .taken) in
+    let r = c .result5 .ensures in
+    rw (r .0, r .1 .0, r .1 .1) (record { on = omega arith; tells = λ n l. told-quantifier-no s (a .scope .count) (a .q) (a .at) (seen (a .scope)) (signatures-of (a .equations) (a .count)) _ _ n l i _ k (c .before .before .before .before .if2 .left) h })
 
 read-formula-push-requires : (t : ℕ) → read-formula-lts.Need-push-requires (read-formula-calls t) (read-formula-at t) read-formula.Post
 read-formula-push-requires t c κs = search needs
@@ -169,7 +176,7 @@ read-formula-sub-read-formulas t c =
 read-formula-read-formulas-requires-2 : (t : ℕ) → read-formula-lts.Need-read-formulas-requires-2 (read-formula-calls t) (read-formula-at t) read-formula.Post
 read-formula-read-formulas-requires-2 t c κs =
     let k = sym (c .before .before .before .before .before .before .before .kind-of .ensures) ∙ c .before .before .before .before .before .enum-told4 .given .1 in
-    let h = c .push .ensures .1 (omega (arith, c .before .before .before .before .if2 .left)) in
+    let h = c .push .ensures .1 (omega (arith, c .before .before .before .before .if2 .left, c .before .before .before .before .before .before .before .before .before .before .before .before .before .before .pre .1 .1 .0)) in
     omega (arith, h .0, c .before .before .before .before .before .before .before .before .before .operands-of .ensures ∙ operands-quantifier _ _ k)
 
 read-formula-enum-told-5 : (t : ℕ) → read-formula-lts.Need-enum-told-5 (read-formula-calls t) (read-formula-at t) read-formula.Post
@@ -183,6 +190,9 @@ read-formula-read-terms-requires t c κs =
     let k = sym (c .before .before .kind-of .ensures) ∙ c .enum-told5 .given .1 in
     omega (arith, c .before .before .before .before .operands-of .ensures ∙ operands-compare _ _ k)
 
+read-formula-result-requires-6 : (t : ℕ) → read-formula-lts.Need-result-requires-6 (read-formula-calls t) (read-formula-at t) read-formula.Post
+read-formula-result-requires-6 t c κs = search needs
+
 read-formula-enum-told-6 : (t : ℕ) → read-formula-lts.Need-enum-told-6 (read-formula-calls t) (read-formula-at t) read-formula.Post
 read-formula-enum-told-6 t c = search needs
 
@@ -191,26 +201,28 @@ read-formula-read-instance-requires t c κs = omega arith
 
 read-formula-returns-4 : (t : ℕ) → read-formula-lts.Need-returns-4 (read-formula-calls t) (read-formula-at t) read-formula.Post
 read-formula-returns-4 t c =
-    let a = c .before .before .before .before .before .before .before .before .before .args in
-    let s = bytes-at (a .text .now) (a .place) (a .size) in
+    let a = c .before .before .before .before .before .before .before .before .before .before .args in
+    let s = bytes-at (a .text .now) (a .body .place) (a .body .size) in
     let k = ap kind-of (sym (c .before .before .before .before .before .before .byte .ensures)) ∙ sym (c .before .before .before .kind-of .ensures) ∙ c .before .enum-told .given .1 in
-    record { on = omega (arith, c .no-span2 .ensures .1); tells = λ n l. rw (c .no-span2 .ensures .0) (told-no-formula s (a .scope .count) (a .q) (a .at) (seen (a .scope)) (signatures-of (a .equations) (a .count)) _ _ n k) }
+    let r = c .result2 .ensures in
+    rw (r .0, r .1 .0, r .1 .1) (record { on = omega arith; tells = λ n l. told-no-formula s (a .scope .count) (a .q) (a .at) (seen (a .scope)) (signatures-of (a .equations) (a .count)) _ _ n k })
 
 read-formula-returns-5 : (t : ℕ) → read-formula-lts.Need-returns-5 (read-formula-calls t) (read-formula-at t) read-formula.Post
 read-formula-returns-5 t c =
-    let a = c .before .before .before .before .before .before .before .before .args in
-    let s = bytes-at (a .text .now) (a .place) (a .size) in
-    let i : a .at < length s = omega (arith, length-bytes (a .text .now) (a .place) (a .size), c .before .before .before .before .before .before .if1 .left) in
-    let k = ap kind-of (sym (c .before .before .before .before .before .byte .ensures)) ∙ sym (c .before .before .kind-of .ensures) ∙ c .enum-told2 .given .1 in
-    let o = c .before .before .before .before .operands-of .ensures ∙ ap operands-of (c .before .before .before .before .before .byte .ensures) in
-    let e = ap (λ (x : ℕ). a .at + (1 + x)) (c .before .before .before .wide .ensures .0 ∙ o) in
-    record { on = omega arith; tells = λ n l. told-constant s (a .scope .count) (a .q) (a .at) (seen (a .scope)) (signatures-of (a .equations) (a .count)) _ _ n l i _ k refl e }
+    let a = c .before .before .before .before .before .before .before .before .before .before .args in
+    let s = bytes-at (a .text .now) (a .body .place) (a .body .size) in
+    let i : a .at < length s = omega (arith, length-bytes (a .text .now) (a .body .place) (a .body .size), c .before .before .before .before .before .before .before .if1 .left) in
+    let k = ap kind-of (sym (c .before .before .before .before .before .before .byte .ensures)) ∙ sym (c .before .before .before .kind-of .ensures) ∙ c .before .enum-told2 .given .1 in
+    let o = c .before .before .before .before .before .operands-of .ensures ∙ ap operands-of (c .before .before .before .before .before .before .byte .ensures) in
+    let e = ap (λ (x : ℕ). a .at + (1 + x)) (c .before .before .before .before .wide .ensures .0 ∙ o) in
+    let r = c .result3 .ensures in
+    rw (r .0, r .1 .0, r .1 .1) (record { on = omega arith; tells = λ n l. told-constant s (a .scope .count) (a .q) (a .at) (seen (a .scope)) (signatures-of (a .equations) (a .count)) _ _ n l i _ k refl e })
 
 read-formula-returns-6 : (t : ℕ) → read-formula-lts.Need-returns-6 (read-formula-calls t) (read-formula-at t) read-formula.Post
 read-formula-returns-6 t c =
-    let a = c .before .before .before .before .before .before .before .before .before .args in
-    let s = bytes-at (a .text .now) (a .place) (a .size) in
-    let i : a .at < length s = omega (arith, length-bytes (a .text .now) (a .place) (a .size), c .before .before .before .before .before .before .before .if1 .left) in
+    let a = c .before .before .before .before .before .before .before .before .before .before .args in
+    let s = bytes-at (a .text .now) (a .body .place) (a .body .size) in
+    let i : a .at < length s = omega (arith, length-bytes (a .text .now) (a .body .place) (a .body .size), c .before .before .before .before .before .before .before .if1 .left) in
     let k = ap kind-of (sym (c .before .before .before .before .before .before .byte .ensures)) ∙ sym (c .before .before .before .kind-of .ensures) ∙ c .before .enum-told3 .given .1 in
     let o = c .before .before .before .before .before .operands-of .ensures ∙ ap operands-of (c .before .before .before .before .before .before .byte .ensures) in
     let p = c .read-formulas .ensures in
@@ -218,56 +230,67 @@ read-formula-returns-6 t c =
 
 read-formula-returns-7 : (t : ℕ) → read-formula-lts.Need-returns-7 (read-formula-calls t) (read-formula-at t) read-formula.Post
 read-formula-returns-7 t c =
-    let a = c .before .before .before .before .before .before .before .before .before .before .before .before .before .before .args in
-    let s = bytes-at (a .text .now) (a .place) (a .size) in
-    let i : a .at < length s = omega (arith, length-bytes (a .text .now) (a .place) (a .size), c .before .before .before .before .before .before .before .before .before .before .before .before .if1 .left) in
+    let a = c .before .before .before .before .before .before .before .before .before .before .before .before .before .before .before .args in
+    let s = bytes-at (a .text .now) (a .body .place) (a .body .size) in
+    let i : a .at < length s = omega (arith, length-bytes (a .text .now) (a .body .place) (a .body .size), c .before .before .before .before .before .before .before .before .before .before .before .before .if1 .left) in
     let k = ap kind-of (sym (c .before .before .before .before .before .before .before .before .before .before .before .byte .ensures)) ∙ sym (c .before .before .before .before .before .before .before .before .kind-of .ensures) ∙ c .before .before .before .before .before .before .enum-told4 .given .1 in
     let o = c .before .before .before .before .before .before .before .before .before .before .operands-of .ensures ∙ ap operands-of (c .before .before .before .before .before .before .before .before .before .before .before .byte .ensures) in
     let r = sym (c .before .before .before .is-range .ensures) ∙ not-false _ (c .before .before .if3 .left) in
-    let h = c .before .push .ensures .1 (omega (arith, c .before .before .before .before .before .if2 .left, c .before .before .before .before .before .before .before .before .before .before .before .before .before .before .pre .1 .1 .0)) in
+    let h = c .before .push .ensures .1 (omega (arith, c .before .before .before .before .before .if2 .left, c .before .before .before .before .before .before .before .before .before .before .before .before .before .before .before .pre .1 .1 .0)) in
     let p = c .read-formulas2 .ensures in
-    record { on = omega (arith, p .on); tells = λ n l. told-quantifier s (a .scope .count) (a .q) (a .at) (seen (a .scope)) (signatures-of (a .equations) (a .count)) _ _ n l i _ k (c .before .before .before .before .before .if2 .left) (c .before .before .before .before .byte2 .ensures) r (h .0) (h .1) (λ m f. rw o at (p .tells m f)) }
+    record {
+      on = omega (arith, p .on);
+      tells = λ n l. told-quantifier s (a .scope .count) (a .q) (a .at) (seen (a .scope)) (signatures-of (a .equations) (a .count)) _ _ n l i _ k
+          (c .before .before .before .before .before .if2 .left) (c .before .before .before .before .byte2 .ensures) r (h .0) (h .1) (λ m f. rw o at (p .tells m f));
+    }
 
 read-formula-returns-8 : (t : ℕ) → read-formula-lts.Need-returns-8 (read-formula-calls t) (read-formula-at t) read-formula.Post
 read-formula-returns-8 t c =
-    let a = c .before .before .before .before .before .before .before .before .before .args in
-    let s = bytes-at (a .text .now) (a .place) (a .size) in
-    let i : a .at < length s = omega (arith, length-bytes (a .text .now) (a .place) (a .size), c .before .before .before .before .before .before .before .if1 .left) in
-    let k = ap kind-of (sym (c .before .before .before .before .before .before .byte .ensures)) ∙ sym (c .before .before .before .kind-of .ensures) ∙ c .before .enum-told5 .given .1 in
-    let o = c .before .before .before .before .before .operands-of .ensures ∙ ap operands-of (c .before .before .before .before .before .before .byte .ensures) in
-    let p = c .read-terms .ensures in
-    record { on = omega (arith, p .on); tells = λ n l. told-compare s (a .scope .count) (a .q) (a .at) (seen (a .scope)) (signatures-of (a .equations) (a .count)) _ _ n l i _ k (λ m f. rw o at (p .tells m f)) refl }
+    let a = c .before .before .before .before .before .before .before .before .before .before .before .args in
+    let s = bytes-at (a .text .now) (a .body .place) (a .body .size) in
+    let i : a .at < length s = omega (arith, length-bytes (a .text .now) (a .body .place) (a .body .size), c .before .before .before .before .before .before .before .before .if1 .left) in
+    let k = ap kind-of (sym (c .before .before .before .before .before .before .before .byte .ensures)) ∙ sym (c .before .before .before .before .kind-of .ensures) ∙ c .before .before .enum-told5 .given .1 in
+    let o = c .before .before .before .before .before .before .operands-of .ensures ∙ ap operands-of (c .before .before .before .before .before .before .before .byte .ensures) in
+    let p = c .before .read-terms .ensures in
+    let r = c .result6 .ensures in
+    rw (r .0, r .1 .0, r .1 .1) (record { on = omega (arith, p .on); tells = λ n l. told-compare s (a .scope .count) (a .q) (a .at) (seen (a .scope)) (signatures-of (a .equations) (a .count)) _ _ n l i _ k (λ m f. rw o at (p .tells m f)) refl })
 
 read-formula-returns-9 : (t : ℕ) → read-formula-lts.Need-returns-9 (read-formula-calls t) (read-formula-at t) read-formula.Post
 read-formula-returns-9 t c =
-    let a = c .before .before .before .before .before .before .before .before .before .args in
-    let s = bytes-at (a .text .now) (a .place) (a .size) in
-    let i : a .at < length s = omega (arith, length-bytes (a .text .now) (a .place) (a .size), c .before .before .before .before .before .before .before .if1 .left) in
+    let a = c .before .before .before .before .before .before .before .before .before .before .args in
+    let s = bytes-at (a .text .now) (a .body .place) (a .body .size) in
+    let i : a .at < length s = omega (arith, length-bytes (a .text .now) (a .body .place) (a .body .size), c .before .before .before .before .before .before .before .if1 .left) in
     let k = ap kind-of (sym (c .before .before .before .before .before .before .byte .ensures)) ∙ sym (c .before .before .before .kind-of .ensures) ∙ c .before .enum-told6 .given .1 in
     let o = c .before .before .before .before .before .operands-of .ensures ∙ ap operands-of (c .before .before .before .before .before .before .byte .ensures) in
     let e = ap (λ (x : ℕ). a .at + (1 + x)) (c .before .before .before .before .wide .ensures .0 ∙ o) in
     let p = c .read-instance .ensures in
     record { on = omega (arith, p .on); tells = λ n l. told-instance s (a .scope .count) (a .q) (a .at) (seen (a .scope)) (signatures-of (a .equations) (a .count)) _ _ n l i k e (p .tells) }
 
+read-formulas-result-requires : (t : ℕ) → read-formulas-lts.Need-result-requires (read-formulas-calls t) (read-formulas-at t) read-formulas.Post
+read-formulas-result-requires t c κs = search needs
+
 read-formulas-returns : (t : ℕ) → read-formulas-lts.Need-returns (read-formulas-calls t) (read-formulas-at t) read-formulas.Post
 read-formulas-returns t c =
-    let a = c .before .before .args in
-    let s = bytes-at (a .text .now) (a .place) (a .size) in
-    record { on = omega arith; tells = λ n l. told-all-read (signatures-of (a .equations) (a .count)) (seen (a .scope)) n s (a .scope .count) (a .q) (a .at) (a .c) (c .if1 .taken) refl refl }
+    let a = c .before .before .before .args in
+    let s = bytes-at (a .text .now) (a .body .place) (a .body .size) in
+    let r = c .result .ensures in
+    rw (r .0, r .1 .0, r .1 .1) (record { on = omega arith; tells = λ n l. told-all-read (signatures-of (a .equations) (a .count)) (seen (a .scope)) n s (a .scope .count) (a .q) (a .at) (a .c) (c .before .if1 .taken) refl refl })
 
 read-formulas-read-formula-requires : (t : ℕ) → read-formulas-lts.Need-read-formula-requires (read-formulas-calls t) (read-formulas-at t) read-formulas.Post
 read-formulas-read-formula-requires t c κs = omega arith
 
-read-formulas-no-span-requires : (t : ℕ) → read-formulas-lts.Need-no-span-requires (read-formulas-calls t) (read-formulas-at t) read-formulas.Post
-read-formulas-no-span-requires t c κs = search needs
+read-formulas-result-requires-2 : (t : ℕ) → read-formulas-lts.Need-result-requires-2 (read-formulas-calls t) (read-formulas-at t) read-formulas.Post
+read-formulas-result-requires-2 t c κs = search needs
 
 read-formulas-returns-2 : (t : ℕ) → read-formulas-lts.Need-returns-2 (read-formulas-calls t) (read-formulas-at t) read-formulas.Post
 read-formulas-returns-2 t c =
     let a = c .before .before .before .before .before .before .args in
-    let s = bytes-at (a .text .now) (a .place) (a .size) in
+    let s = bytes-at (a .text .now) (a .body .place) (a .body .size) in
     let p = c .before .before .before .read-formula .ensures in
     let y = not-true (c .before .before .before .read-formula .result .ok) (c .before .if2 .taken) in
-    record { on = omega (arith, p .on, c .no-span .ensures .1); tells = λ n l. rw (c .no-span .ensures .0) (told-next-stop (signatures-of (a .equations) (a .count)) (seen (a .scope)) n s (a .scope .count) (a .q) (a .at) (a .c) (a .c - 1) (omega (arith, c .before .before .before .before .if1 .left)) (rw y at (p .tells n l))) }
+    let z : a .c ≡ suc (a .c - 1) = omega (arith, c .before .before .before .before .if1 .left) in
+    let r = c .result2 .ensures in
+    rw (r .0, r .1 .0, r .1 .1) (record { on = omega (arith, p .on); tells = λ n l. told-next-stop (signatures-of (a .equations) (a .count)) (seen (a .scope)) n s (a .scope .count) (a .q) (a .at) (a .c) (a .c - 1) z (rw y at (p .tells n l)) })
 
 read-formulas-sub-read-formulas : (t : ℕ) → read-formulas-lts.Need-sub-read-formulas (read-formulas-calls t) (read-formulas-at t) read-formulas.Post
 read-formulas-sub-read-formulas t c = omega arith
@@ -278,19 +301,28 @@ read-formulas-read-formulas-requires t c κs = omega (arith, c .before .before .
 read-formulas-and-requires : (t : ℕ) → read-formulas-lts.Need-and-requires (read-formulas-calls t) (read-formulas-at t) read-formulas.Post
 read-formulas-and-requires t c κs = search needs
 
+read-formulas-result-requires-3 : (t : ℕ) → read-formulas-lts.Need-result-requires-3 (read-formulas-calls t) (read-formulas-at t) read-formulas.Post
+read-formulas-result-requires-3 t c κs = search needs
+
 read-formulas-returns-3 : (t : ℕ) → read-formulas-lts.Need-returns-3 (read-formulas-calls t) (read-formulas-at t) read-formulas.Post
 read-formulas-returns-3 t c =
-    let a = c .before .before .before .before .before .before .before .args in
-    let s = bytes-at (a .text .now) (a .place) (a .size) in
-    let p = c .before .before .before .before .read-formula .ensures in
-    let v = c .before .read-formulas .ensures in
-    let y = not-false (c .before .before .before .before .read-formula .result .ok) (c .before .before .if2 .left) in
-    record { on = omega (arith, p .on, v .on); tells = λ n l. told-next (signatures-of (a .equations) (a .count)) (seen (a .scope)) n s (a .scope .count) (a .q) (a .at) (a .c) (a .c - 1) (omega (arith, c .before .before .before .before .before .if1 .left)) (rw y at (p .tells n l)) (v .tells n (omega (arith, p .on))) (c .and .ensures) }
+    let a = c .before .before .before .before .before .before .before .before .args in
+    let s = bytes-at (a .text .now) (a .body .place) (a .body .size) in
+    let p = c .before .before .before .before .before .read-formula .ensures in
+    let v = c .before .before .read-formulas .ensures in
+    let y = not-false (c .before .before .before .before .before .read-formula .result .ok) (c .before .before .before .if2 .left) in
+    let z : a .c ≡ suc (a .c - 1) = omega (arith, c .before .before .before .before .before .before .if1 .left) in
+    let r = c .result3 .ensures in
+    rw (r .0, r .1 .0, r .1 .1) (record {
+      on = omega (arith, p .on, v .on);
+      tells = λ n l. told-next (signatures-of (a .equations) (a .count)) (seen (a .scope)) n s (a .scope .count) (a .q) (a .at) (a .c) (a .c - 1) z
+          (rw y at (p .tells n l)) (v .tells n (omega (arith, p .on))) (c .before .and .ensures);
+    })
 
 pub +read-formula+read-formulas-spec : {M : Type 1} → statement M
 +read-formula+read-formulas-spec =
     close μ-read-formula μ-read-formulas
     (λ t. read-formula-lts.spec (read-formula-calls t) (read-formula-at t) read-formula.Post
-    (read-formula-no-span-requires t) (read-formula-returns t) (read-formula-byte-requires t) (read-formula-operands-of-requires t) (read-formula-wide-requires t) (read-formula-add-after t) (read-formula-add-next t) (read-formula-kind-of-requires t) (read-formula-enum-told t) (read-formula-no-span-requires-2 t) (read-formula-enum-told-2 t) (read-formula-enum-told-3 t) (read-formula-add-read-formulas t) (read-formula-read-formulas-requires t) (read-formula-enum-told-4 t) (read-formula-no-span-requires-3 t) (read-formula-returns-2 t) (read-formula-add-byte t) (read-formula-byte-requires-2 t) (read-formula-is-range-requires t) (read-formula-no-span-requires-4 t) (read-formula-returns-3 t) (read-formula-push-requires t) (read-formula-add-read-formulas-2 t) (read-formula-add-read-formulas-3 t) (read-formula-sub-read-formulas t) (read-formula-read-formulas-requires-2 t) (read-formula-enum-told-5 t) (read-formula-add-read-terms t) (read-formula-read-terms-requires t) (read-formula-enum-told-6 t) (read-formula-read-instance-requires t) (read-formula-returns-4 t) (read-formula-returns-5 t) (read-formula-returns-6 t) (read-formula-returns-7 t) (read-formula-returns-8 t) (read-formula-returns-9 t))
+    (read-formula-result-requires t) (read-formula-returns t) (read-formula-byte-requires t) (read-formula-operands-of-requires t) (read-formula-wide-requires t) (read-formula-add-after t) (read-formula-add-next t) (read-formula-kind-of-requires t) (read-formula-enum-told t) (read-formula-result-requires-2 t) (read-formula-enum-told-2 t) (read-formula-result-requires-3 t) (read-formula-enum-told-3 t) (read-formula-add-read-formulas t) (read-formula-read-formulas-requires t) (read-formula-enum-told-4 t) (read-formula-result-requires-4 t) (read-formula-returns-2 t) (read-formula-add-byte t) (read-formula-byte-requires-2 t) (read-formula-is-range-requires t) (read-formula-result-requires-5 t) (read-formula-returns-3 t) (read-formula-push-requires t) (read-formula-add-read-formulas-2 t) (read-formula-add-read-formulas-3 t) (read-formula-sub-read-formulas t) (read-formula-read-formulas-requires-2 t) (read-formula-enum-told-5 t) (read-formula-add-read-terms t) (read-formula-read-terms-requires t) (read-formula-result-requires-6 t) (read-formula-enum-told-6 t) (read-formula-read-instance-requires t) (read-formula-returns-4 t) (read-formula-returns-5 t) (read-formula-returns-6 t) (read-formula-returns-7 t) (read-formula-returns-8 t) (read-formula-returns-9 t))
     (λ t. read-formulas-lts.spec (read-formulas-calls t) (read-formulas-at t) read-formulas.Post
-    (read-formulas-returns t) (read-formulas-read-formula-requires t) (read-formulas-no-span-requires t) (read-formulas-returns-2 t) (read-formulas-sub-read-formulas t) (read-formulas-read-formulas-requires t) (read-formulas-and-requires t) (read-formulas-returns-3 t))
+    (read-formulas-result-requires t) (read-formulas-returns t) (read-formulas-read-formula-requires t) (read-formulas-result-requires-2 t) (read-formulas-returns-2 t) (read-formulas-sub-read-formulas t) (read-formulas-read-formulas-requires t) (read-formulas-and-requires t) (read-formulas-result-requires-3 t) (read-formulas-returns-3 t))

@@ -12,8 +12,9 @@ use Rattle.digits.proofs.Bytes.{length-bytes, byte-beyond}
 use Rattle.formulas.specs.Codes.{term-kind-of, operands-of}
 use Rattle.formulas.specs.Shapes.{no-term-kind, operands-calculation}
 use Rattle.formulas.specs.Scopes.{seen}
-use Rattle.formulas.proofs.Terms.{told-no-term, told-number-no, told-number, told-variable, told-calculation-no, told-calculation, told-none-left, told-more, told-more-stop}
-use Prim.Native.Nat.{ℕ, _<_, _≤_, _+_, _-_, _*_}
+use Rattle.formulas.proofs.Terms.{told-no-term, told-number-no, told-number, told-variable}
+use Rattle.formulas.proofs.Terms.{told-calculation-no, told-calculation, told-none-left, told-more, told-more-stop}
+use Prim.Native.Nat.{ℕ, suc, _<_, _+_, _-_, _*_}
 use borrow.Fn.Kinds.{In}
 use borrow.Fn.PlainCycle.{Measures, is, falls, and}
 use Rattle.formulas.proofs.read_term.Reads as read-term
@@ -26,19 +27,19 @@ use Rattle.digits.proofs.and.Reads as and-reads
 use Rattle.digits.proofs.byte.Reads as byte-reads
 use Rattle.digits.proofs.wide.Reads as wide-reads
 use Rattle.formulas.proofs.is_range.Reads as is-range-reads
-use Rattle.formulas.proofs.no_span.Reads as no-span-reads
-use Rattle.formulas.proofs.no_term.Reads as no-term-reads
 use Rattle.formulas.proofs.operands_of.Reads as operands-of-reads
+use Rattle.formulas.proofs.result.Reads as result-reads
 use Rattle.formulas.proofs.term_kind_of.Reads as term-kind-of-reads
+use Rattle.formulas.proofs.term_result.Reads as term-result-reads
 use Rattle.formulas.proofs.variable.Reads as variable-reads
 use Rattle.formulas.proofs.+read_term+read_terms.{statement}
 use Rattle.formulas.proofs.+read_term+read_terms.Tie.{close}
 
 abbrev μ-read-term : Measures 1 read-term-kinds.ps ℕ
-μ-read-term κs a = (a .1 .1 .0 - a .1 .1 .1 .0) * 512
+μ-read-term κs a = (a .1 .0 .size - a .1 .1 .0) * 512
 
 abbrev μ-read-terms : Measures 1 read-terms-kinds.ps ℕ
-μ-read-terms κs a = (a .1 .1 .0 - a .1 .1 .1 .0) * 512 + a .1 .1 .1 .1 .1 .0 + 1
+μ-read-terms κs a = (a .1 .0 .size - a .1 .1 .0) * 512 + a .1 .1 .1 .1 .0 + 1
 
 abbrev read-term-at : ℕ → In 1 read-term-kinds.ps
 read-term-at t = and 1 read-term-kinds.ps (is 1 read-term-kinds.ps μ-read-term t) read-term.Pre
@@ -56,10 +57,10 @@ read-terms-below t =
     and 1 read-terms-kinds.ps (falls 1 read-terms-kinds.ps _<_ μ-read-terms t) read-terms.Pre
 
 abbrev read-term-calls : ℕ → read-term-lts.Claims
-read-term-calls t = (no-term-reads.Asked, no-term-reads.Learnt, byte-reads.Asked, byte-reads.Learnt, operands-of-reads.Asked, operands-of-reads.Learnt, wide-reads.Asked, wide-reads.Learnt, term-kind-of-reads.Asked, term-kind-of-reads.Learnt, variable-reads.Asked, variable-reads.Learnt, is-range-reads.Asked, is-range-reads.Learnt, read-terms-below t, read-terms.Post)
+read-term-calls t = (term-result-reads.Asked, term-result-reads.Learnt, byte-reads.Asked, byte-reads.Learnt, operands-of-reads.Asked, operands-of-reads.Learnt, wide-reads.Asked, wide-reads.Learnt, term-kind-of-reads.Asked, term-kind-of-reads.Learnt, variable-reads.Asked, variable-reads.Learnt, is-range-reads.Asked, is-range-reads.Learnt, read-terms-below t, read-terms.Post)
 
 abbrev read-terms-calls : ℕ → read-terms-lts.Claims
-read-terms-calls t = (wide-reads.Asked, wide-reads.Learnt, read-term-below t, read-term.Post, no-span-reads.Asked, no-span-reads.Learnt, read-terms-below t, read-terms.Post, variable-reads.Asked, variable-reads.Learnt, and-reads.Asked, and-reads.Learnt)
+read-terms-calls t = (wide-reads.Asked, wide-reads.Learnt, result-reads.Asked, result-reads.Learnt, read-term-below t, read-term.Post, read-terms-below t, read-terms.Post, variable-reads.Asked, variable-reads.Learnt, and-reads.Asked, and-reads.Learnt)
 
 -- a signature has place for all its ranges
 all-seen : (t : ℕ) (c : read-terms-lts.Start (read-terms-calls t) (read-terms-at t) read-terms.Post) → length (seen (c .args .signature)) ≡ c .args .signature .count
@@ -67,15 +68,16 @@ all-seen t c =
     let g : length (c .args .signature .values) ≡ 8 = search needs in
     length-take-le (c .args .signature .count) (c .args .signature .values) (omega (arith, g))
 
-read-term-no-term-requires : (t : ℕ) → read-term-lts.Need-no-term-requires (read-term-calls t) (read-term-at t) read-term.Post
-read-term-no-term-requires t c κs = search needs
+read-term-term-result-requires : (t : ℕ) → read-term-lts.Need-term-result-requires (read-term-calls t) (read-term-at t) read-term.Post
+read-term-term-result-requires t c κs = search needs
 
 read-term-returns : (t : ℕ) → read-term-lts.Need-returns (read-term-calls t) (read-term-at t) read-term.Post
 read-term-returns t c =
-    let a = c .before .before .before .args in
-    let s = bytes-at (a .text .now) (a .place) (a .size) in
-    let z : getD s (a .at) 0 ≡ 0 = byte-beyond (a .text .now) (a .place) (a .size) (a .at) (c .before .if1 .taken) in
-    record { on = omega (arith, c .no-term .ensures .1); tells = λ n l. rw (c .no-term .ensures .0) (told-no-term s (a .scope .count) (a .at) (seen (a .scope)) _ _ n (rw z no-term-kind)) }
+    let a = c .before .before .before .before .args in
+    let s = bytes-at (a .text .now) (a .body .place) (a .body .size) in
+    let z : getD s (a .at) 0 ≡ 0 = byte-beyond (a .text .now) (a .body .place) (a .body .size) (a .at) (c .before .if1 .taken) in
+    let r = c .term-result .ensures in
+    rw (r .0, r .1 .0, r .1 .1) (record { on = omega arith; tells = λ n l. told-no-term s (a .scope .count) (a .at) (seen (a .scope)) _ _ n (rw z no-term-kind) })
 
 read-term-byte-requires : (t : ℕ) → read-term-lts.Need-byte-requires (read-term-calls t) (read-term-at t) read-term.Post
 read-term-byte-requires t c κs = search needs
@@ -104,25 +106,30 @@ read-term-term-kind-of-requires t c κs = search needs
 read-term-enum-told : (t : ℕ) → read-term-lts.Need-enum-told (read-term-calls t) (read-term-at t) read-term.Post
 read-term-enum-told t c = search needs
 
-read-term-no-term-requires-2 : (t : ℕ) → read-term-lts.Need-no-term-requires-2 (read-term-calls t) (read-term-at t) read-term.Post
-read-term-no-term-requires-2 t c κs = search needs
+read-term-term-result-requires-2 : (t : ℕ) → read-term-lts.Need-term-result-requires-2 (read-term-calls t) (read-term-at t) read-term.Post
+read-term-term-result-requires-2 t c κs = search needs
 
 read-term-enum-told-2 : (t : ℕ) → read-term-lts.Need-enum-told-2 (read-term-calls t) (read-term-at t) read-term.Post
 read-term-enum-told-2 t c = search needs
 
-read-term-no-term-requires-3 : (t : ℕ) → read-term-lts.Need-no-term-requires-3 (read-term-calls t) (read-term-at t) read-term.Post
-read-term-no-term-requires-3 t c κs = search needs
+read-term-term-result-requires-3 : (t : ℕ) → read-term-lts.Need-term-result-requires-3 (read-term-calls t) (read-term-at t) read-term.Post
+read-term-term-result-requires-3 t c κs = search needs
 
 read-term-returns-2 : (t : ℕ) → read-term-lts.Need-returns-2 (read-term-calls t) (read-term-at t) read-term.Post
 read-term-returns-2 t c =
-    let a = c .before .before .before .before .before .before .before .before .before .before .before .args in
-    let s = bytes-at (a .text .now) (a .place) (a .size) in
-    let i : a .at < length s = omega (arith, length-bytes (a .text .now) (a .place) (a .size), c .before .before .before .before .before .before .before .before .before .if1 .left) in
+    let a = c .before .before .before .before .before .before .before .before .before .before .before .before .args in
+    let s = bytes-at (a .text .now) (a .body .place) (a .body .size) in
+    let i : a .at < length s = omega (arith, length-bytes (a .text .now) (a .body .place) (a .body .size), c .before .before .before .before .before .before .before .before .before .if1 .left) in
     let k = ap term-kind-of (sym (c .before .before .before .before .before .before .before .before .byte .ensures)) ∙ sym (c .before .before .before .before .term-kind-of .ensures) ∙ c .before .before .enum-told2 .given .1 in
-    record { on = omega (arith, c .no-term3 .ensures .1); tells = λ n l. rw (c .no-term3 .ensures .0) (told-number-no s (a .scope .count) (a .at) (seen (a .scope)) _ _ n l i k (rw (c .before .before .before .before .before .before .before .byte2 .ensures) at (c .before .if2 .taken))) }
+    let x = rw (c .before .before .before .before .before .before .before .byte2 .ensures) at (c .before .if2 .taken) in
+    let r = c .term-result3 .ensures in
+    rw (r .0, r .1 .0, r .1 .1) (record { on = omega arith; tells = λ n l. told-number-no s (a .scope .count) (a .at) (seen (a .scope)) _ _ n l i k x })
 
-read-term-add-range : (t : ℕ) → read-term-lts.Need-add-range (read-term-calls t) (read-term-at t) read-term.Post
-read-term-add-range t c = search needs
+read-term-add-term-result : (t : ℕ) → read-term-lts.Need-add-term-result (read-term-calls t) (read-term-at t) read-term.Post
+read-term-add-term-result t c = search needs
+
+read-term-term-result-requires-4 : (t : ℕ) → read-term-lts.Need-term-result-requires-4 (read-term-calls t) (read-term-at t) read-term.Post
+read-term-term-result-requires-4 t c κs = search needs
 
 read-term-enum-told-3 : (t : ℕ) → read-term-lts.Need-enum-told-3 (read-term-calls t) (read-term-at t) read-term.Post
 read-term-enum-told-3 t c = search needs
@@ -133,99 +140,118 @@ read-term-wide-requires-2 t c κs = search needs
 read-term-variable-requires : (t : ℕ) → read-term-lts.Need-variable-requires (read-term-calls t) (read-term-at t) read-term.Post
 read-term-variable-requires t c κs = search needs
 
+read-term-term-result-requires-5 : (t : ℕ) → read-term-lts.Need-term-result-requires-5 (read-term-calls t) (read-term-at t) read-term.Post
+read-term-term-result-requires-5 t c κs = search needs
+
 read-term-enum-told-4 : (t : ℕ) → read-term-lts.Need-enum-told-4 (read-term-calls t) (read-term-at t) read-term.Post
 read-term-enum-told-4 t c = search needs
 
 read-term-is-range-requires : (t : ℕ) → read-term-lts.Need-is-range-requires (read-term-calls t) (read-term-at t) read-term.Post
 read-term-is-range-requires t c κs = search needs
 
-read-term-no-term-requires-4 : (t : ℕ) → read-term-lts.Need-no-term-requires-4 (read-term-calls t) (read-term-at t) read-term.Post
-read-term-no-term-requires-4 t c κs = search needs
+read-term-term-result-requires-6 : (t : ℕ) → read-term-lts.Need-term-result-requires-6 (read-term-calls t) (read-term-at t) read-term.Post
+read-term-term-result-requires-6 t c κs = search needs
 
 read-term-returns-3 : (t : ℕ) → read-term-lts.Need-returns-3 (read-term-calls t) (read-term-at t) read-term.Post
 read-term-returns-3 t c =
-    let a = c .before .before .before .before .before .before .before .before .before .before .before .before .args in
-    let s = bytes-at (a .text .now) (a .place) (a .size) in
-    let i : a .at < length s = omega (arith, length-bytes (a .text .now) (a .place) (a .size), c .before .before .before .before .before .before .before .before .before .before .if1 .left) in
+    let a = c .before .before .before .before .before .before .before .before .before .before .before .before .before .args in
+    let s = bytes-at (a .text .now) (a .body .place) (a .body .size) in
+    let i : a .at < length s = omega (arith, length-bytes (a .text .now) (a .body .place) (a .body .size), c .before .before .before .before .before .before .before .before .before .before .if1 .left) in
     let k = ap term-kind-of (sym (c .before .before .before .before .before .before .before .before .before .byte .ensures)) ∙ sym (c .before .before .before .before .before .term-kind-of .ensures) ∙ c .before .before .before .enum-told4 .given .1 in
-    let r = ap is-range (sym (c .before .before .before .before .before .before .before .before .byte2 .ensures)) ∙ sym (c .before .before .is-range .ensures) ∙ not-true _ (c .before .if3 .taken) in
-    record { on = omega (arith, c .no-term4 .ensures .1); tells = λ n l. rw (c .no-term4 .ensures .0) (told-calculation-no s (a .scope .count) (a .at) (seen (a .scope)) _ _ n l i _ k r) }
-
-read-term-sub-inside : (t : ℕ) → read-term-lts.Need-sub-inside (read-term-calls t) (read-term-at t) read-term.Post
-read-term-sub-inside t c =
-    let k = sym (c .before .before .before .before .term-kind-of .ensures) ∙ c .before .before .enum-told4 .given .1 in
-    omega (arith, c .before .before .before .before .before .before .operands-of .ensures ∙ operands-calculation _ _ k)
+    let h = ap is-range (sym (c .before .before .before .before .before .before .before .before .byte2 .ensures)) ∙ sym (c .before .before .is-range .ensures) ∙ not-true _ (c .before .if3 .taken) in
+    let r = c .term-result6 .ensures in
+    rw (r .0, r .1 .0, r .1 .1) (record { on = omega arith; tells = λ n l. told-calculation-no s (a .scope .count) (a .at) (seen (a .scope)) _ _ n l i _ k h })
 
 read-term-add-read-terms : (t : ℕ) → read-term-lts.Need-add-read-terms (read-term-calls t) (read-term-at t) read-term.Post
 read-term-add-read-terms t c = search needs
+
+read-term-sub-read-terms : (t : ℕ) → read-term-lts.Need-sub-read-terms (read-term-calls t) (read-term-at t) read-term.Post
+read-term-sub-read-terms t c =
+    let k = sym (c .before .before .before .before .term-kind-of .ensures) ∙ c .before .before .enum-told4 .given .1 in
+    omega (arith, c .before .before .before .before .before .before .operands-of .ensures ∙ operands-calculation _ _ k)
 
 read-term-read-terms-requires : (t : ℕ) → read-term-lts.Need-read-terms-requires (read-term-calls t) (read-term-at t) read-term.Post
 read-term-read-terms-requires t c κs =
     let k = sym (c .before .before .before .before .term-kind-of .ensures) ∙ c .before .before .enum-told4 .given .1 in
     omega (arith, c .before .before .before .before .before .before .operands-of .ensures ∙ operands-calculation _ _ k)
 
+read-term-term-result-requires-7 : (t : ℕ) → read-term-lts.Need-term-result-requires-7 (read-term-calls t) (read-term-at t) read-term.Post
+read-term-term-result-requires-7 t c κs = search needs
+
 read-term-returns-4 : (t : ℕ) → read-term-lts.Need-returns-4 (read-term-calls t) (read-term-at t) read-term.Post
 read-term-returns-4 t c =
-    let a = c .before .before .before .before .before .before .before .before .before .before .args in
-    let s = bytes-at (a .text .now) (a .place) (a .size) in
+    let a = c .before .before .before .before .before .before .before .before .before .before .before .args in
+    let s = bytes-at (a .text .now) (a .body .place) (a .body .size) in
     let k = ap term-kind-of (sym (c .before .before .before .before .before .before .before .byte .ensures)) ∙ sym (c .before .before .before .term-kind-of .ensures) ∙ c .before .enum-told .given .1 in
-    record { on = omega (arith, c .no-term2 .ensures .1); tells = λ n l. rw (c .no-term2 .ensures .0) (told-no-term s (a .scope .count) (a .at) (seen (a .scope)) _ _ n k) }
+    let r = c .term-result2 .ensures in
+    rw (r .0, r .1 .0, r .1 .1) (record { on = omega arith; tells = λ n l. told-no-term s (a .scope .count) (a .at) (seen (a .scope)) _ _ n k })
 
 read-term-returns-5 : (t : ℕ) → read-term-lts.Need-returns-5 (read-term-calls t) (read-term-at t) read-term.Post
 read-term-returns-5 t c =
-    let a = c .before .before .before .before .before .before .before .before .before .before .args in
-    let s = bytes-at (a .text .now) (a .place) (a .size) in
-    let i : a .at < length s = omega (arith, length-bytes (a .text .now) (a .place) (a .size), c .before .before .before .before .before .before .before .before .if1 .left) in
-    let k = ap term-kind-of (sym (c .before .before .before .before .before .before .before .byte .ensures)) ∙ sym (c .before .before .before .term-kind-of .ensures) ∙ c .before .enum-told2 .given .1 in
-    let o = c .before .before .before .before .before .operands-of .ensures ∙ ap operands-of (c .before .before .before .before .before .before .before .byte .ensures) in
-    let e = ap (λ (x : ℕ). a .at + (1 + x)) (c .before .before .before .before .wide .ensures .0 ∙ o) in
-    record { on = omega arith; tells = λ n l. told-number s (a .scope .count) (a .at) (seen (a .scope)) _ _ n l i k (rw (c .before .before .before .before .before .before .byte2 .ensures) at (c .if2 .left)) (rw (c .before .before .before .before .before .before .byte2 .ensures) refl) e }
+    let a = c .before .before .before .before .before .before .before .before .before .before .before .before .args in
+    let s = bytes-at (a .text .now) (a .body .place) (a .body .size) in
+    let i : a .at < length s = omega (arith, length-bytes (a .text .now) (a .body .place) (a .body .size), c .before .before .before .before .before .before .before .before .before .if1 .left) in
+    let k = ap term-kind-of (sym (c .before .before .before .before .before .before .before .before .byte .ensures)) ∙ sym (c .before .before .before .before .term-kind-of .ensures) ∙ c .before .before .enum-told2 .given .1 in
+    let o = c .before .before .before .before .before .before .operands-of .ensures ∙ ap operands-of (c .before .before .before .before .before .before .before .before .byte .ensures) in
+    let e = ap (λ (x : ℕ). a .at + (1 + x)) (c .before .before .before .before .before .wide .ensures .0 ∙ o) in
+    let x = rw (c .before .before .before .before .before .before .before .byte2 .ensures) at (c .before .if2 .left) in
+    let r = c .term-result4 .ensures in
+    rw (r .0, r .1 .0, r .1 .1) (record { on = omega arith; tells = λ n l. told-number s (a .scope .count) (a .at) (seen (a .scope)) _ _ n l i k x (rw (c .before .before .before .before .before .before .before .byte2 .ensures) refl) e })
 
 read-term-returns-6 : (t : ℕ) → read-term-lts.Need-returns-6 (read-term-calls t) (read-term-at t) read-term.Post
 read-term-returns-6 t c =
-    let a = c .before .before .before .before .before .before .before .before .before .before .before .before .args in
-    let s = bytes-at (a .text .now) (a .place) (a .size) in
-    let i : a .at < length s = omega (arith, length-bytes (a .text .now) (a .place) (a .size), c .before .before .before .before .before .before .before .before .before .before .if1 .left) in
-    let k = ap term-kind-of (sym (c .before .before .before .before .before .before .before .before .before .byte .ensures)) ∙ sym (c .before .before .before .before .before .term-kind-of .ensures) ∙ c .before .before .before .enum-told3 .given .1 in
-    let o = c .before .before .before .before .before .before .before .operands-of .ensures ∙ ap operands-of (c .before .before .before .before .before .before .before .before .before .byte .ensures) in
-    let e = ap (λ (x : ℕ). a .at + (1 + x)) (c .before .before .before .before .before .before .wide .ensures .0 ∙ o) in
-    let x = c .before .before .wide2 .ensures .0 in
-    record { on = omega arith; tells = λ n l. told-variable s (a .scope .count) (a .at) (seen (a .scope)) _ _ n l i k (x ∙ c .before .before .before .before .before .before .before .before .byte2 .ensures) (c .variable .ensures ∙ ap (λ (x : ℕ). getD (seen (a .scope)) x 0) (sym x)) e }
+    let a = c .before .before .before .before .before .before .before .before .before .before .before .before .before .before .args in
+    let s = bytes-at (a .text .now) (a .body .place) (a .body .size) in
+    let i : a .at < length s = omega (arith, length-bytes (a .text .now) (a .body .place) (a .body .size), c .before .before .before .before .before .before .before .before .before .before .before .if1 .left) in
+    let k = ap term-kind-of (sym (c .before .before .before .before .before .before .before .before .before .before .byte .ensures)) ∙ sym (c .before .before .before .before .before .before .term-kind-of .ensures) ∙ c .before .before .before .before .enum-told3 .given .1 in
+    let o = c .before .before .before .before .before .before .before .before .operands-of .ensures ∙ ap operands-of (c .before .before .before .before .before .before .before .before .before .before .byte .ensures) in
+    let e = ap (λ (x : ℕ). a .at + (1 + x)) (c .before .before .before .before .before .before .before .wide .ensures .0 ∙ o) in
+    let x = c .before .before .before .wide2 .ensures .0 in
+    let v = c .before .variable .ensures ∙ ap (λ (x : ℕ). getD (seen (a .scope)) x 0) (sym x) in
+    let r = c .term-result5 .ensures in
+    rw (r .0, r .1 .0, r .1 .1) (record { on = omega arith; tells = λ n l. told-variable s (a .scope .count) (a .at) (seen (a .scope)) _ _ n l i k (x ∙ c .before .before .before .before .before .before .before .before .before .byte2 .ensures) v e })
 
 read-term-returns-7 : (t : ℕ) → read-term-lts.Need-returns-7 (read-term-calls t) (read-term-at t) read-term.Post
 read-term-returns-7 t c =
-    let a = c .before .before .before .before .before .before .before .before .before .before .before .before .args in
-    let s = bytes-at (a .text .now) (a .place) (a .size) in
-    let i : a .at < length s = omega (arith, length-bytes (a .text .now) (a .place) (a .size), c .before .before .before .before .before .before .before .before .before .before .if1 .left) in
-    let k = ap term-kind-of (sym (c .before .before .before .before .before .before .before .before .before .byte .ensures)) ∙ sym (c .before .before .before .before .before .term-kind-of .ensures) ∙ c .before .before .before .enum-told4 .given .1 in
-    let o = c .before .before .before .before .before .before .before .operands-of .ensures ∙ ap operands-of (c .before .before .before .before .before .before .before .before .before .byte .ensures) in
-    let r = ap is-range (sym (c .before .before .before .before .before .before .before .before .byte2 .ensures)) ∙ sym (c .before .before .is-range .ensures) ∙ not-false _ (c .before .if3 .left) in
-    let p = c .read-terms .ensures in
-    record { on = omega (arith, p .on); tells = λ n l. told-calculation s (a .scope .count) (a .at) (seen (a .scope)) _ _ n l i _ k r (λ m f. rw o at (p .tells m f)) (c .before .before .before .before .before .before .before .before .byte2 .ensures) }
+    let a = c .before .before .before .before .before .before .before .before .before .before .before .before .before .before .args in
+    let s = bytes-at (a .text .now) (a .body .place) (a .body .size) in
+    let i : a .at < length s = omega (arith, length-bytes (a .text .now) (a .body .place) (a .body .size), c .before .before .before .before .before .before .before .before .before .before .before .if1 .left) in
+    let k = ap term-kind-of (sym (c .before .before .before .before .before .before .before .before .before .before .byte .ensures)) ∙ sym (c .before .before .before .before .before .before .term-kind-of .ensures) ∙ c .before .before .before .before .enum-told4 .given .1 in
+    let o = c .before .before .before .before .before .before .before .before .operands-of .ensures ∙ ap operands-of (c .before .before .before .before .before .before .before .before .before .before .byte .ensures) in
+    let h = ap is-range (sym (c .before .before .before .before .before .before .before .before .before .byte2 .ensures)) ∙ sym (c .before .before .before .is-range .ensures) ∙ not-false _ (c .before .before .if3 .left) in
+    let p = c .before .read-terms .ensures in
+    let r = c .term-result7 .ensures in
+    rw (r .0, r .1 .0, r .1 .1) (record { on = omega (arith, p .on); tells = λ n l. told-calculation s (a .scope .count) (a .at) (seen (a .scope)) _ _ n l i _ k h (λ m f. rw o at (p .tells m f)) (c .before .before .before .before .before .before .before .before .before .byte2 .ensures) })
 
 read-terms-wide-requires : (t : ℕ) → read-terms-lts.Need-wide-requires (read-terms-calls t) (read-terms-at t) read-terms.Post
 read-terms-wide-requires t c κs = search needs
 
+read-terms-result-requires : (t : ℕ) → read-terms-lts.Need-result-requires (read-terms-calls t) (read-terms-at t) read-terms.Post
+read-terms-result-requires t c κs = search needs
+
 read-terms-returns : (t : ℕ) → read-terms-lts.Need-returns (read-terms-calls t) (read-terms-at t) read-terms.Post
 read-terms-returns t c =
-    let a = c .before .before .before .before .args in
-    let s = bytes-at (a .text .now) (a .place) (a .size) in
-    let w = all-seen t (c .before .before .before .before) in
-    record { on = omega arith; tells = λ n l. told-none-left n s (a .scope .count) (a .at) (seen (a .scope)) (seen (a .signature)) (a .j) (a .c) (c .before .if1 .taken) (rw (w, c .before .before .wide .ensures .0) refl) refl }
+    let a = c .before .before .before .before .before .args in
+    let s = bytes-at (a .text .now) (a .body .place) (a .body .size) in
+    let w = all-seen t (c .before .before .before .before .before) in
+    let r = c .result .ensures in
+    rw (r .0, r .1 .0, r .1 .1) (record { on = omega arith; tells = λ n l. told-none-left n s (a .scope .count) (a .at) (seen (a .scope)) (seen (a .signature)) (a .j) (a .c) (c .before .before .if1 .taken) (rw (w, c .before .before .before .wide .ensures .0) refl) refl })
 
 read-terms-read-term-requires : (t : ℕ) → read-terms-lts.Need-read-term-requires (read-terms-calls t) (read-terms-at t) read-terms.Post
 read-terms-read-term-requires t c κs = omega arith
 
-read-terms-no-span-requires : (t : ℕ) → read-terms-lts.Need-no-span-requires (read-terms-calls t) (read-terms-at t) read-terms.Post
-read-terms-no-span-requires t c κs = search needs
+read-terms-result-requires-2 : (t : ℕ) → read-terms-lts.Need-result-requires-2 (read-terms-calls t) (read-terms-at t) read-terms.Post
+read-terms-result-requires-2 t c κs = search needs
 
 read-terms-returns-2 : (t : ℕ) → read-terms-lts.Need-returns-2 (read-terms-calls t) (read-terms-at t) read-terms.Post
 read-terms-returns-2 t c =
     let a = c .before .before .before .before .before .before .before .args in
-    let s = bytes-at (a .text .now) (a .place) (a .size) in
+    let s = bytes-at (a .text .now) (a .body .place) (a .body .size) in
     let p = c .before .before .before .read-term .ensures in
     let y = not-true (c .before .before .before .read-term .result .ok) (c .before .if2 .taken) in
-    record { on = omega (arith, p .on, c .no-span .ensures .1); tells = λ n l. rw (c .no-span .ensures .0) (told-more-stop n s (a .scope .count) (a .at) (seen (a .scope)) (seen (a .signature)) (a .j) (a .c) (a .c - 1) (omega (arith, c .before .before .before .before .if1 .left)) (rw y at (p .tells n l))) }
+    let z : a .c ≡ suc (a .c - 1) = omega (arith, c .before .before .before .before .if1 .left) in
+    let r = c .result2 .ensures in
+    rw (r .0, r .1 .0, r .1 .1) (record { on = omega (arith, p .on); tells = λ n l. told-more-stop n s (a .scope .count) (a .at) (seen (a .scope)) (seen (a .signature)) (a .j) (a .c) (a .c - 1) z (rw y at (p .tells n l)) })
 
 read-terms-sub-read-terms : (t : ℕ) → read-terms-lts.Need-sub-read-terms (read-terms-calls t) (read-terms-at t) read-terms.Post
 read-terms-sub-read-terms t c = omega arith
@@ -245,24 +271,29 @@ read-terms-and-requires t c κs = search needs
 read-terms-and-requires-2 : (t : ℕ) → read-terms-lts.Need-and-requires-2 (read-terms-calls t) (read-terms-at t) read-terms.Post
 read-terms-and-requires-2 t c κs = search needs
 
+read-terms-result-requires-3 : (t : ℕ) → read-terms-lts.Need-result-requires-3 (read-terms-calls t) (read-terms-at t) read-terms.Post
+read-terms-result-requires-3 t c κs = search needs
+
 read-terms-returns-3 : (t : ℕ) → read-terms-lts.Need-returns-3 (read-terms-calls t) (read-terms-at t) read-terms.Post
 read-terms-returns-3 t c =
-    let a = c .before .before .before .before .before .before .before .before .before .before .before .before .args in
-    let s = bytes-at (a .text .now) (a .place) (a .size) in
-    let w = all-seen t (c .before .before .before .before .before .before .before .before .before .before .before .before) in
-    let p = c .before .before .before .before .before .before .before .before .read-term .ensures in
-    let v = c .before .before .before .before .before .read-terms .ensures in
-    let y = not-false (c .before .before .before .before .before .before .before .before .read-term .result .ok) (c .before .before .before .before .before .before .if2 .left) in
-    record {
+    let a = c .before .before .before .before .before .before .before .before .before .before .before .before .before .args in
+    let s = bytes-at (a .text .now) (a .body .place) (a .body .size) in
+    let w = all-seen t (c .before .before .before .before .before .before .before .before .before .before .before .before .before) in
+    let p = c .before .before .before .before .before .before .before .before .before .read-term .ensures in
+    let v = c .before .before .before .before .before .before .read-terms .ensures in
+    let y = not-false (c .before .before .before .before .before .before .before .before .before .read-term .result .ok) (c .before .before .before .before .before .before .before .if2 .left) in
+    let z : a .c ≡ suc (a .c - 1) = omega (arith, c .before .before .before .before .before .before .before .before .before .before .if1 .left) in
+    let r = c .result3 .ensures in
+    rw (r .0, r .1 .0, r .1 .1) (record {
       on = omega (arith, p .on, v .on);
-      tells = λ n l. told-more n s (a .scope .count) (a .at) (seen (a .scope)) (seen (a .signature)) (a .j) (a .c) (a .c - 1) (omega (arith, c .before .before .before .before .before .before .before .before .before .if1 .left)) (rw y at (p .tells n l)) (v .tells n (omega (arith, p .on)))
-          (c .and2 .ensures ∙ rw (c .before .before .and .ensures, c .before .before .before .before .variable .ensures, c .before .before .before .before .before .before .before .before .before .before .wide .ensures .0, w) refl);
-    }
+      tells = λ n l. told-more n s (a .scope .count) (a .at) (seen (a .scope)) (seen (a .signature)) (a .j) (a .c) (a .c - 1) z (rw y at (p .tells n l)) (v .tells n (omega (arith, p .on)))
+          (c .before .and2 .ensures ∙ rw (c .before .before .before .and .ensures, c .before .before .before .before .before .variable .ensures, c .before .before .before .before .before .before .before .before .before .before .before .wide .ensures .0, w) refl);
+    })
 
 pub +read-term+read-terms-spec : {M : Type 1} → statement M
 +read-term+read-terms-spec =
     close μ-read-term μ-read-terms
     (λ t. read-term-lts.spec (read-term-calls t) (read-term-at t) read-term.Post
-    (read-term-no-term-requires t) (read-term-returns t) (read-term-byte-requires t) (read-term-add-byte t) (read-term-byte-requires-2 t) (read-term-operands-of-requires t) (read-term-wide-requires t) (read-term-add-after t) (read-term-add-next t) (read-term-term-kind-of-requires t) (read-term-enum-told t) (read-term-no-term-requires-2 t) (read-term-enum-told-2 t) (read-term-no-term-requires-3 t) (read-term-returns-2 t) (read-term-add-range t) (read-term-enum-told-3 t) (read-term-wide-requires-2 t) (read-term-variable-requires t) (read-term-enum-told-4 t) (read-term-is-range-requires t) (read-term-no-term-requires-4 t) (read-term-returns-3 t) (read-term-sub-inside t) (read-term-add-read-terms t) (read-term-read-terms-requires t) (read-term-returns-4 t) (read-term-returns-5 t) (read-term-returns-6 t) (read-term-returns-7 t))
+    (read-term-term-result-requires t) (read-term-returns t) (read-term-byte-requires t) (read-term-add-byte t) (read-term-byte-requires-2 t) (read-term-operands-of-requires t) (read-term-wide-requires t) (read-term-add-after t) (read-term-add-next t) (read-term-term-kind-of-requires t) (read-term-enum-told t) (read-term-term-result-requires-2 t) (read-term-enum-told-2 t) (read-term-term-result-requires-3 t) (read-term-returns-2 t) (read-term-add-term-result t) (read-term-term-result-requires-4 t) (read-term-enum-told-3 t) (read-term-wide-requires-2 t) (read-term-variable-requires t) (read-term-term-result-requires-5 t) (read-term-enum-told-4 t) (read-term-is-range-requires t) (read-term-term-result-requires-6 t) (read-term-returns-3 t) (read-term-add-read-terms t) (read-term-sub-read-terms t) (read-term-read-terms-requires t) (read-term-term-result-requires-7 t) (read-term-returns-4 t) (read-term-returns-5 t) (read-term-returns-6 t) (read-term-returns-7 t))
     (λ t. read-terms-lts.spec (read-terms-calls t) (read-terms-at t) read-terms.Post
-    (read-terms-wide-requires t) (read-terms-returns t) (read-terms-read-term-requires t) (read-terms-no-span-requires t) (read-terms-returns-2 t) (read-terms-sub-read-terms t) (read-terms-add-read-terms t) (read-terms-read-terms-requires t) (read-terms-variable-requires t) (read-terms-and-requires t) (read-terms-and-requires-2 t) (read-terms-returns-3 t))
+    (read-terms-wide-requires t) (read-terms-result-requires t) (read-terms-returns t) (read-terms-read-term-requires t) (read-terms-result-requires-2 t) (read-terms-returns-2 t) (read-terms-sub-read-terms t) (read-terms-add-read-terms t) (read-terms-read-terms-requires t) (read-terms-variable-requires t) (read-terms-and-requires t) (read-terms-and-requires-2 t) (read-terms-result-requires-3 t) (read-terms-returns-3 t))

@@ -9,13 +9,13 @@ use native.Mathlib.Omega.{arith}
 use Rattle.formulas.proofs.read_body.Statement.{statement}
 use Rattle.formulas.proofs.read_body.Tie as tie
 
-no-span-requires : tie.Need-no-span-requires
-no-span-requires c κs = search needs
+result-requires : tie.Need-result-requires
+result-requires c κs = search needs
 
 returns : tie.Need-returns
 returns c =
-    let a = c .before .before .before .args in
-    rw (c .no-span .ensures .0) (body-long (a .text .now) (a .e) (a .equations) (a .count) (c .before .if1 .taken))
+    let a = c .before .before .before .before .args in
+    rw (c .result .ensures .0) (body-long (a .text .now) (a .e) (a .equations) (a .count) (c .before .if1 .taken))
 
 signature-of-requires : tie.Need-signature-of-requires
 signature-of-requires c κs = search needs
@@ -28,16 +28,17 @@ read-formula-requires c κs = omega (arith, c .before .signature-of .ensures .1 
 
 returns-2 : tie.Need-returns-2
 returns-2 c =
-    let a = c .before .before .before .before .before .args in
+    let a = c .before .before .before .before .before .before .args in
     let g : length (a .equations) ≡ 8 = search needs in
-    body-read (a .text .now) (a .e) (a .equations) (a .count) (c .before .before .before .if1 .left) g (c .before .smaller .ensures) (c .before .before .signature-of .ensures .0) (c .before .before .signature-of .ensures .1 .0)
+    let s = c .before .before .signature-of .ensures in
+    body-read (a .text .now) (a .e) (a .equations) (a .count) (c .before .before .before .if1 .left) g (c .before .smaller .ensures) (s .0) (s .1 .0)
     (c .read-formula .ensures .tells (a .e .length) (omega (arith, length-bytes (a .text .now) (a .e .place) (a .e .length))))
 
 pub read-body-spec : {M : Type 1} → statement M
 read-body-spec =
     tie.close
     (tie.spec
-    no-span-requires
+    result-requires
     returns
     signature-of-requires
     smaller-requires

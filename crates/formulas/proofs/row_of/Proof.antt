@@ -1,9 +1,9 @@
 -- `formulas::row_of` meets its contract.
 -- The table is the definition's; before and past it there is no row.
-use Prim.Native.Nat.{_-_, _≤_}
-use mathlib.Core.Path.{_≡_, refl, sym}
+use Prim.Native.Nat.{_-_}
+use mathlib.Core.Path.{refl, sym}
 use borrow.Author.Tests.{lt-leb, le-leb}
-use lib.ListN.{length, List·getD-eq-default}
+use lib.ListN.{List·getD-eq-default}
 use Rattle.formulas.specs.Codes.{row-of, rows, no-row}
 use borrow.Author.Needs.{needs}
 use native.Mathlib.Omega.{arith}

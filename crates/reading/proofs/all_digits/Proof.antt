@@ -1,9 +1,9 @@
 -- `reading::all_digits` meets its contract.
 -- What is left to look at decides.
 use native.Mathlib.Omega.{arith}
-use Prim.Native.Nat.{_+_, _-_, _≤_}
+use Prim.Native.Nat.{_-_, _≤_}
 use mathlib.Core.Path.{_≡_, refl, sym, _∙_}
-use lib.ListN.{length, take, drop}
+use lib.ListN.{take, drop}
 use Rattle.reading.specs.Lines.{all-digits}
 use Rattle.reading.proofs.Ends.{digits-none, digits-no, digits-yes}
 use borrow.Author.Needs.{needs}

@@ -1,8 +1,8 @@
 -- `reading::finish` meets its contract.
 -- There is a start or not.
-use mathlib.Core.Path.{refl, sym, ap, _∙_}
+use mathlib.Core.Path.{_∙_}
 use borrow.Author.Tests.{not-true, not-false}
-use Rattle.reading.proofs.Steps.{finish-none, finish-some}
+use Rattle.reading.proofs.Answers.{finish-none, finish-some}
 use borrow.Author.Needs.{needs}
 use Rattle.reading.proofs.finish.Statement.{statement}
 use Rattle.reading.proofs.finish.Tie as tie

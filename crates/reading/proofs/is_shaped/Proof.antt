@@ -1,6 +1,6 @@
 -- `reading::is_shaped` meets its contract.
 -- All tests hold.
-use Rattle.reading.proofs.Steps.{shape}
+use Rattle.reading.proofs.Answers.{shape}
 use borrow.Author.Needs.{needs}
 use Rattle.reading.proofs.is_shaped.Statement.{statement}
 use Rattle.reading.proofs.is_shaped.Tie as tie

@@ -1,10 +1,10 @@
 -- `reading::judge_instances` meets its contract.
 -- What is left to judge decides.
-use Prim.Native.Nat.{_+_, _-_, _≤_}
-use mathlib.Core.Path.{_≡_, refl, sym, ap, _∙_}
+use Prim.Native.Nat.{_-_, _≤_}
+use mathlib.Core.Path.{_≡_, sym, ap, _∙_}
 use borrow.Author.Tests.{not-true, not-false}
 use Rattle.reading.specs.Reading.{instances-judged}
-use Rattle.reading.proofs.Steps.{instances-wrong, instances-more, instances-end}
+use Rattle.reading.proofs.Answers.{instances-wrong, instances-more, instances-end}
 use borrow.Author.Needs.{needs}
 use native.Mathlib.Omega.{arith}
 use Rattle.reading.proofs.judge_instances.Statement.{statement}

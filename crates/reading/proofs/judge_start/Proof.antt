@@ -1,6 +1,6 @@
 -- `reading::judge_start` meets its contract.
 -- The start is right or not.
-use mathlib.Core.Path.{refl, sym, _∙_}
+use mathlib.Core.Path.{sym, _∙_}
 use borrow.Author.Tests.{not-true, not-false}
 use Rattle.reading.specs.Reading.{start-judged}
 use borrow.Author.Needs.{needs}

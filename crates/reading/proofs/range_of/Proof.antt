@@ -1,6 +1,6 @@
 -- `reading::range_of` meets its contract.
 -- A range is given or absent.
-use mathlib.Core.Path.{refl, sym, _∙_}
+use mathlib.Core.Path.{_∙_}
 use Rattle.digits.specs.Digits.{bytes-at}
 use Rattle.reading.proofs.Heads.{range-given, range-absent}
 use borrow.Author.Needs.{needs}

@@ -1,6 +1,6 @@
 -- `reading::ranges_right` meets its contract.
 -- Four tests on four ranges.
-use mathlib.Core.Path.{_≡_, _∙_, refl}
+use mathlib.Core.Path.{_≡_}
 use lib.ListN.{length}
 use Rattle.reading.proofs.Starts.{four-ranges}
 use borrow.Author.Needs.{needs}

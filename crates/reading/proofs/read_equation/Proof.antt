@@ -1,9 +1,9 @@
 -- `reading::read_equation` meets its contract.
 -- One law for each way out.
-use mathlib.Core.Path.{refl, sym, ap, _∙_}
+use mathlib.Core.Path.{ap, _∙_}
 use borrow.Author.Tests.{not-true, not-false}
 use Rattle.reading.specs.Reading.{accepted}
-use Rattle.reading.proofs.Steps.{equation-late, equation-ninth, head-wrong, body-wrong, equation-right}
+use Rattle.reading.proofs.Answers.{equation-late, equation-ninth, head-wrong, body-wrong, equation-right}
 use borrow.Author.Needs.{needs}
 use Rattle.reading.proofs.read_equation.Statement.{statement}
 use Rattle.reading.proofs.read_equation.Tie as tie

@@ -1,8 +1,8 @@
 -- `reading::read_frame` meets its contract.
 -- One law for each first byte.
-use mathlib.Core.Path.{refl, sym, ap, _∙_}
+use mathlib.Core.Path.{_∙_}
 use Rattle.digits.specs.Digits.{bytes-at}
-use Rattle.reading.proofs.Steps.{frame-equation, frame-start, frame-note, frame-none}
+use Rattle.reading.proofs.Answers.{frame-equation, frame-start, frame-note, frame-none}
 use borrow.Author.Needs.{needs}
 use Rattle.reading.proofs.read_frame.Statement.{statement}
 use Rattle.reading.proofs.read_frame.Tie as tie

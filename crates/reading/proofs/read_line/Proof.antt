@@ -1,8 +1,8 @@
 -- `reading::read_line` meets its contract.
 -- One law for each way out.
-use mathlib.Core.Path.{refl, sym, ap, _∙_}
+use mathlib.Core.Path.{_∙_}
 use borrow.Author.Tests.{not-true, not-false}
-use Rattle.reading.proofs.Steps.{line-characters, line-shape, line-frame}
+use Rattle.reading.proofs.Answers.{line-characters, line-shape, line-frame}
 use borrow.Author.Needs.{needs}
 use Rattle.reading.proofs.read_line.Statement.{statement}
 use Rattle.reading.proofs.read_line.Tie as tie

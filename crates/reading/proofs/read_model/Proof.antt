@@ -1,7 +1,7 @@
 -- `reading::read_model` meets its contract.
 -- The reading of the text is the reading of what is left, from the present state.
 use Prim.Native.Nat.{_+_, _-_, _≤_}
-use mathlib.Core.Path.{_≡_, refl, sym, ap, _∙_}
+use mathlib.Core.Path.{_≡_, sym, _∙_}
 use lib.ListN.{length, drop}
 use Rattle.reading.specs.Lines.{lines-of}
 use Rattle.reading.specs.Reading.{read-lines, reading}

@@ -1,9 +1,9 @@
 -- `reading::read_start` meets its contract.
 -- One law for each way out.
-use mathlib.Core.Path.{refl, sym, ap, _∙_}
+use mathlib.Core.Path.{ap, _∙_}
 use Rattle.reading.specs.Models.{with-start}
 use Rattle.reading.specs.Reading.{accepted}
-use Rattle.reading.proofs.Steps.{start-late, start-early, start-short, start-right}
+use Rattle.reading.proofs.Answers.{start-late, start-early, start-short, start-right}
 use borrow.Author.Needs.{needs}
 use Rattle.reading.proofs.read_start.Statement.{statement}
 use Rattle.reading.proofs.read_start.Tie as tie

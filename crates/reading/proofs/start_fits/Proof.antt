@@ -1,7 +1,7 @@
 -- `reading::start_fits` meets its contract.
 -- As many arguments as parameters, and four tests on those that are there.
 use Prim.Native.Nat.{ℕ, min}
-use mathlib.Core.Path.{_≡_, ap, _∙_, refl}
+use mathlib.Core.Path.{_≡_, ap, _∙_}
 use lib.ListN.{length}
 use Rattle.reading.proofs.Starts.{arguments-judged}
 use borrow.Author.Needs.{needs}

@@ -1,23 +1,21 @@
--- One law for each way through a frame, a line, and what comes after the lines.
+-- One law for each way to an answer: through a frame, a line, and what comes after the lines.
 -- The tests are rewritten one after the other, in the order of the definition.
-use Prim.Native.Nat.{ℕ, zero, suc, _+_, _-_, _*_, _/_, _%_, _≤_, _<_}
+use Prim.Native.Nat.{ℕ, suc, _+_, _-_, _/_, _%_, _≤_, _<_}
 use native.Mathlib.Omega.{arith}
-use mathlib.Core.Path.{_≡_, refl, sym, ap, _∙_}
-use mathlib.Core.Bool.{Bool, true, false, not, cond, _&&_}
-use mathlib.Core.List.{List, [], _∷_}
+use mathlib.Core.Path.{_≡_, refl, _∙_}
+use mathlib.Core.Bool.{Bool, true, false, _&&_}
+use mathlib.Core.List.{List}
 use lib.ListN.{length, getD, take, drop, length-take, length-drop}
-use lib.Dec.{eqb, ltb, leb, lit≤}
-use borrow.Author.Tests.{eq-eqb, ne-eqb, le-leb, lt-leb, lt-ltb, le-ltb, ltb-true}
+use lib.Dec.{eqb, ltb, leb}
+use borrow.Author.Tests.{ne-eqb, le-leb, lt-leb, lt-ltb, le-ltb}
 use Rattle.digits.specs.Digits.{bytes-at}
 use Rattle.formulas.specs.declared.Equation.{Equation}
-use Rattle.reading.specs.declared.Start.{Start}
 use Rattle.reading.specs.declared.Model.{Model}
-use Rattle.reading.specs.declared.Reading.{Reading}
-use Rattle.reading.specs.Lines.{Line, all-digits}
+use Rattle.reading.specs.Lines.{all-digits}
 use Rattle.reading.specs.Frames.{head-right, equation-record, start-record}
 use Rattle.formulas.specs.Bodies.{blank, is-body, is-fitting}
 use Rattle.reading.specs.Models.{with-equation, with-start}
-use Rattle.reading.specs.Reading.{refused, accepted, unless, read-equation, read-start, read-frame, is-shaped, read-line, line-at, start-judged, instances-judged, finished}
+use Rattle.reading.specs.Reading.{refused, accepted, read-equation, read-start, read-frame, is-shaped, read-line, line-at, start-judged, instances-judged, finished}
 use Rattle.digits.proofs.Bytes.{length-bytes}
 
 -- ---- an equation's frame, of n bytes

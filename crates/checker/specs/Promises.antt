@@ -1,0 +1,29 @@
+-- DEFINITIONS: the promises of the public operations, for all inputs: one equation for what comes back and one for each lent place.
+-- THEOREMS: one reply for each input. Two replies that a promise allows are equal.
+use mathlib.Core.Path.{_≡_, sym, _∙_}
+use Prim.Native.Nat.{ℕ}
+use mathlib.Core.List.{List}
+use lib.ListN.{length}
+use Rattle.answers.specs.declared.Answer.{Answer}
+use Rattle.answers.specs.Answers.{checked, table-after-check}
+use Rattle.checker.specs.declared.Record.{Record}
+use Rattle.checker.specs.declared.ReadAnswer.{ReadAnswer}
+use Rattle.checker.specs.Records.{read-answer, records-after-read, records-after-check}
+
+-- reading the text t, lent `records`: it answers a and leaves `records-left`
+pub record Read (t : List ℕ) (records : List Record) (a : ReadAnswer) (records-left : List Record) : Type 0 where
+  pub answered : a ≡ read-answer t (length records)
+  pub filled : records-left ≡ records-after-read t records
+
+-- checking the text t, lent `records` and `table`: it answers a and leaves `records-left` and `table-left`
+pub record Checked (t : List ℕ) (records : List Record) (table : List ℕ) (a : Answer) (records-left : List Record) (table-left : List ℕ) : Type 0 where
+  pub answered : a ≡ checked t (length records) (length table)
+  pub filled : records-left ≡ records-after-check t (length table) records
+  pub listed : table-left ≡ table-after-check t (length records) table
+
+pub one-reading : (t : List ℕ) (records : List Record) {a b : ReadAnswer} {xs ys : List Record} → Read t records a xs → Read t records b ys → (a ≡ b) × (xs ≡ ys)
+one-reading t records p q = (p .answered ∙ sym (q .answered), p .filled ∙ sym (q .filled))
+
+pub one-check : (t : List ℕ) (records : List Record) (table : List ℕ) {a b : Answer} {xs ys : List Record} {ws vs : List ℕ}
+    → Checked t records table a xs ws → Checked t records table b ys vs → (a ≡ b) × ((xs ≡ ys) × (ws ≡ vs))
+one-check t records table p q = (p .answered ∙ sym (q .answered), (p .filled ∙ sym (q .filled), p .listed ∙ sym (q .listed)))

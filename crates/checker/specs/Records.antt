@@ -1,0 +1,36 @@
+-- DEFINITIONS: the lent list of equation records. Document 01, "What is lent".
+-- What reading answers, and what the records hold after reading and after checking.
+use Prim.Native.Nat.{ℕ}
+use mathlib.Core.Bool.{cond}
+use mathlib.Core.List.{List, _++_, map}
+use lib.Dec.{eqb, ltb}
+use lib.ListN.{length, take, drop}
+use Rattle.formulas.specs.declared.Equation.{Equation}
+use Rattle.reading.specs.declared.Model.{Model}
+use Rattle.reading.specs.Reading.{reading}
+use Rattle.answers.specs.Answers.{checked}
+use Rattle.checker.specs.declared.Record.{Record}
+use Rattle.checker.specs.declared.ReadAnswer.{ReadAnswer}
+
+-- "sign, k, four ranges (1 for an absent one), place of the body's first digit in the text (counted from 0), body length in bytes"
+abbrev pub record-of : Equation → Record
+record-of e = record { sign = e .sign; k = e .k; ranges = e .ranges; place = e .place; length = e .length }
+
+-- a record for each equation, in file order
+unfoldable pub records-of : Model → List Record
+records-of model = map record-of (take (model .count) (model .equations))
+
+-- "Records past the equation count stay as they were, and so do all records on any refusal, 9 included"
+unfoldable pub records-after : ℕ → Model → List Record → List Record
+records-after number model records = cond (eqb number 0) (records-of model ++ drop (model .count) records) records
+
+-- "Where the list has fewer than eight records the answer is 5, line 0, before any other refusal"
+unfoldable pub read-answer : List ℕ → ℕ → ReadAnswer
+read-answer t records-lent =
+    cond (ltb records-lent 8) (record { number = 5; line = 0 }) (record { number = reading t .number; line = reading t .line })
+
+unfoldable pub records-after-read : List ℕ → List Record → List Record
+records-after-read t records = records-after (read-answer t (length records) .number) (reading t .model) records
+
+unfoldable pub records-after-check : List ℕ → ℕ → List Record → List Record
+records-after-check t words-lent records = records-after (checked t (length records) words-lent .number) (reading t .model) records

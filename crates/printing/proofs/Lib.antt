@@ -1,0 +1,4 @@
+pub mod Answered
+pub mod Heads
+pub mod Reached
+pub mod Stores

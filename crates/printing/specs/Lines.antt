@@ -1,0 +1,52 @@
+-- What the private functions print: an answer's lines from its table's words, its truth and its equation records.
+-- That these are the lines of the text's answer is shown in proofs/Answered.
+use mathlib.Core.Path.{_≡_}
+use Prim.Native.Nat.{ℕ, suc, _+_, _/_, _≤_, _<_}
+use mathlib.Core.Bool.{Bool, cond}
+use mathlib.Core.List.{List, [], _∷_, _++_}
+use lib.Dec.{eqb}
+use lib.ListN.{length, take, getD}
+use lib.Seq.{sets}
+use Rattle.meaning.specs.WordLaws.{arguments-of}
+use Rattle.formulas.specs.declared.Equation.{Equation}
+use Rattle.formulas.specs.Bodies.{blank}
+use Rattle.truth.specs.Bits.{bit-of}
+use Rattle.answers.specs.Answers.{bit}
+use Rattle.answers.specs.Printed.{line-of, verdict-frame, refusal-frame}
+use Rattle.engine.specs.declared.Examined.{Examined}
+use Rattle.printing.specs.declared.Frame.{Frame}
+
+-- w is stored in a buffer from place `at` on, and r is the place after it
+abbrev pub Puts : List ℕ → ℕ → List ℕ → ℕ → List ℕ → Type 0
+Puts out at w r out-left = (r ≡ at + length w) × (out-left ≡ sets out at w)
+
+abbrev pub bytes-of : Frame → List ℕ
+bytes-of f = take (f .count) (f .bytes)
+
+-- how many parameters the equation of a word has
+abbrev pub parameters-of : List Equation → ℕ → ℕ
+parameters-of equations w = getD equations (w / 65536) blank .k
+
+-- the frame of a word whose equation has k parameters
+unfoldable pub word-frame : ℕ → ℕ → Bool → List ℕ
+word-frame k w value = 0x04 ∷ w / 65536 ∷ (arguments-of k w ++ (bit value ∷ []))
+
+-- the lines of the words from number j on
+unfoldable pub lines-of : List Equation → List ℕ → ℕ → List ℕ → List ℕ
+lines-of equations truth j [] = []
+lines-of equations truth j (w ∷ ws) = line-of (word-frame (parameters-of equations w) w (bit-of truth j)) ++ lines-of equations truth (suc j) ws
+
+unfoldable pub text-of : List ℕ → Examined → List ℕ
+text-of words e =
+    cond (eqb (e .answer .number) 0)
+    (lines-of (e .model .equations) (e .answer .truth) 0 (take (e .answer .reached) words) ++ line-of (verdict-frame (e .answer)))
+    (line-of (refusal-frame (e .answer)))
+
+-- every word is that of an equation, which has at most four parameters
+unfoldable pub Readable : List Equation → List ℕ → Type 0
+Readable equations ws = (j : ℕ) → j < length ws → (getD ws j 0 / 65536 < 8) × (parameters-of equations (getD ws j 0) ≤ 4)
+
+-- on a verdict, the words of the reached instances are there
+pub record Printable (words : List ℕ) (e : Examined) : Type 0 where
+  pub few : e .answer .number ≡ 0 → (e .answer .reached ≤ 512) × (e .answer .reached ≤ length words)
+  pub readable : e .answer .number ≡ 0 → Readable (e .model .equations) (take (e .answer .reached) words)

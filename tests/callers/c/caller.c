@@ -1,0 +1,159 @@
+/* Calls the checker's archive from C, as an image builder does, with thousands of texts, and
+   compares every byte with a plain checker that shares no code with it. The first difference
+   ends the run with status 1.
+
+       caller [HOW MANY [SEED]]          texts made from the seed
+       caller samples TEXTS ANSWERS      the texts of a file: crates/samples/README.md tells its form
+
+   Text and buffer both end where memory may not be touched, so that a read or a write past
+   either ends the run at once. */
+#define _DEFAULT_SOURCE
+#include "devashtor.h"
+
+#include "../../reference/reference.h"
+#include "texts.h"
+
+#include <stdio.h>
+#include <stdlib.h>
+#include <string.h>
+#include <sys/mman.h>
+
+enum { AREA = 128 * 1024, FENCE = 64 * 1024, MOST_STEPS = 200000 };
+
+/* The end of AREA bytes of memory, with forbidden memory behind it. */
+static uint8_t *fenced_end(void)
+{
+    uint8_t *area = mmap(NULL, AREA + FENCE, PROT_READ | PROT_WRITE, MAP_PRIVATE | MAP_ANONYMOUS, -1, 0);
+    if (area == MAP_FAILED || mprotect(area + AREA, FENCE, PROT_NONE) != 0) {
+        perror("memory");
+        exit(2);
+    }
+    return area + AREA;
+}
+
+static uint8_t *text_end, *out_end;
+static uint8_t expected[REFERENCE_MOST];
+static size_t expected_length;
+static unsigned long calls;
+
+static uint8_t pattern(size_t i, unsigned salt)
+{
+    return (uint8_t)(i * 7 + (i >> 8) + salt);
+}
+
+static void fail(const char *what, const uint8_t *text, size_t length)
+{
+    printf("caller.c: %s for this text of %zu bytes:\n", what, length);
+    fwrite(text, 1, length, stdout);
+    printf("\nexpected:\n");
+    fwrite(expected, 1, expected_length, stdout);
+    exit(1);
+}
+
+/* One call with a buffer of this length; 64 bytes in front of the buffer are watched too. */
+static void call(const uint8_t *text, size_t length, size_t buffer)
+{
+    unsigned salt = texts_below(256);
+    uint8_t *from = text_end - length, *out = out_end - buffer;
+    size_t written, due = buffer < DEVASHTOR_ROOM ? 0 : expected_length;
+    memcpy(from, text, length);
+    for (size_t i = 0; i < buffer + 64; i++)
+        out[i - 64] = pattern(i, salt);
+    written = devashtor_check(from, length, out, buffer);
+    calls++;
+    if (memcmp(from, text, length) != 0)
+        fail("the text was changed", text, length);
+    if (written != due) {
+        printf("caller.c: %zu bytes for %zu in a buffer of %zu\n", written, due, buffer);
+        fail("another number of bytes", text, length);
+    }
+    if (memcmp(out, expected, due) != 0) {
+        printf("caller.c: got\n%.*s", (int)due, (const char *)out);
+        fail("other bytes", text, length);
+    }
+    for (size_t i = 0; i < buffer + 64; i++)
+        if ((i < 64 || i >= 64 + due) && out[i - 64] != pattern(i, salt))
+            fail("a byte outside the answer was touched", text, length);
+}
+
+/* ---- texts with known answers --------------------------------------------------------------- */
+
+static uint8_t *whole_file(const char *name, size_t *length)
+{
+    FILE *file = fopen(name, "rb");
+    uint8_t *bytes = malloc(1 << 22);
+    if (file == NULL || bytes == NULL) {
+        perror(name);
+        exit(2);
+    }
+    *length = fread(bytes, 1, 1 << 22, file);
+    fclose(file);
+    return bytes;
+}
+
+/* Each text is preceded by its length, each answer is followed by an empty line. */
+static int known_samples(const char *texts_name, const char *answers_name)
+{
+    static uint8_t printed[REFERENCE_MOST];
+    size_t texts_length, answers_length, at = 0, from = 0, number = 0;
+    uint8_t *texts = whole_file(texts_name, &texts_length), *answers = whole_file(answers_name, &answers_length);
+    while (at < texts_length) {
+        size_t length = strtoul((const char *)texts + at, NULL, 16), end = from;
+        const uint8_t *text = texts + at + 9;
+        while (end + 1 < answers_length && (answers[end] != '\n' || answers[end + 1] != '\n'))
+            end++;
+        expected_length = end + 1 - from;
+        memcpy(expected, answers + from, expected_length);
+        if (reference_print(text, length, printed) != expected_length || memcmp(printed, expected, expected_length) != 0)
+            fail("the plain checker prints something else", text, length);
+        call(text, length, DEVASHTOR_ROOM);
+        at += 9 + length;
+        from = end + 2;
+        number++;
+    }
+    printf("caller.c: %zu samples, no difference\n", number);
+    return at == texts_length && from == answers_length ? 0 : 1;
+}
+
+int main(int arguments, char **argument)
+{
+    static const size_t buffers[] = {DEVASHTOR_ROOM, DEVASHTOR_ROOM + 1, 8192, 20000};
+    static const size_t short_buffers[] = {DEVASHTOR_ROOM - 1, 0, 1, 13, 4096};
+    static uint8_t text[TEXT_MOST];
+    unsigned long wanted = arguments > 1 ? strtoul(argument[1], NULL, 10) : 10000;
+    unsigned long refusals[10] = {0}, holds = 0, fails = 0, defined = 0, reached = 0, full = 0;
+    size_t length;
+    text_end = fenced_end();
+    out_end = fenced_end();
+    if (arguments == 4 && strcmp(argument[1], "samples") == 0)
+        return known_samples(argument[2], argument[3]);
+    texts_seed(arguments > 2 ? strtoul(argument[2], NULL, 10) : 1);
+    for (unsigned long n = 0; n < wanted; n++) {
+        do { /* what takes the plain checker too long is left out */
+            length = texts_next(text);
+            expected_length = reference_print(text, length, expected);
+        } while (reference_steps > MOST_STEPS);
+        if (n % 4 == 0 && reference_agrees() == 0)
+            fail("the plain checker does not agree with the definition", text, length);
+        refusals[reference_number]++;
+        if (reference_number == 0) {
+            defined += n % 4 == 0 && reference_agrees() == 1;
+            reached += reference_reached;
+            full += reference_reached > 256;
+            *(expected[expected_length - 10] == '1' ? &holds : &fails) += 1;
+        }
+        call(text, length, n % 8 == 7 ? DEVASHTOR_ROOM + texts_below(9000) : buffers[n % 4]);
+        if (n % 5 == 0)
+            call(text, length, short_buffers[n / 5 % 5]);
+    }
+    printf("caller.c: %lu texts, %lu calls, no difference: %lu hold, %lu fail, refused", wanted, calls, holds, fails);
+    for (unsigned number = 1; number <= 9; number++) {
+        printf(" %u:%lu", number, refusals[number]);
+        if (refusals[number] == 0 && wanted >= 4000) {
+            printf("\ncaller.c: no text was refused by %u, so this run is too weak\n", number);
+            return 1;
+        }
+    }
+    printf("; %lu instances, %lu models over 256; %lu solved by the definition too\n", reached, full, defined);
+    return 0;
+}

@@ -1,0 +1,403 @@
+#include "texts.h"
+
+#include <stdbool.h>
+#include <string.h>
+
+static uint64_t state;
+
+void texts_seed(uint64_t seed)
+{
+    state = seed * 0x9e3779b97f4a7c15u + 1;
+}
+
+unsigned texts_below(unsigned n)
+{
+    state ^= state >> 12;
+    state ^= state << 25;
+    state ^= state >> 27;
+    return (unsigned)(state * 0x2545f4914f6cdd1du >> 33) % n;
+}
+
+static bool chance(unsigned percent)
+{
+    return texts_below(100) < percent;
+}
+
+static unsigned between(unsigned low, unsigned high)
+{
+    return low + texts_below(high - low + 1);
+}
+
+/* ---- the frame that is being made --------------------------------------------------------- */
+
+static uint8_t frame[1024];
+static unsigned frame_length;
+
+static void put(unsigned byte)
+{
+    if (frame_length < sizeof frame)
+        frame[frame_length++] = (uint8_t)byte;
+}
+
+/* ---- a model's plan: the heads of its equations --------------------------------------------- */
+
+static unsigned count, sign[8], k[8], range[8][4];
+
+static void plan(unsigned equations, unsigned parameters[2], unsigned ranges[2])
+{
+    count = equations;
+    for (unsigned e = 0; e < count; e++) {
+        sign[e] = texts_below(2);
+        k[e] = between(parameters[0], parameters[1]);
+        for (unsigned i = 0; i < k[e]; i++)
+            range[e][i] = between(ranges[0], ranges[1]);
+    }
+}
+
+static void put_head(unsigned e)
+{
+    frame_length = 0;
+    put(1);
+    put(sign[e]);
+    put(k[e]);
+    for (unsigned i = 0; i < k[e]; i++)
+        put(range[e][i]);
+}
+
+/* ---- terms and formulas, by chance ----------------------------------------------------------- */
+
+static unsigned scope[8], variables, quantifiers; /* the ranges of the variables in reach */
+
+/* A term whose range is at most `most`. */
+static void put_term(unsigned most, unsigned depth)
+{
+    unsigned fitting[8], fits = 0;
+    for (unsigned i = 0; i < variables; i++)
+        if (scope[i] <= most)
+            fitting[fits++] = i;
+    if (depth > 0 && chance(40)) {
+        put(0x22 + chance(35));
+        put(chance(70) ? most : between(1, most));
+        put_term(16, depth - 1);
+        put_term(16, depth - 1);
+    } else if (fits > 0 && chance(75)) {
+        put(0x21);
+        put(fitting[texts_below(fits)]);
+    } else {
+        put(0x20);
+        put(texts_below(most));
+    }
+}
+
+static void put_instance(void)
+{
+    unsigned e = texts_below(count);
+    put(0x1a);
+    put(e);
+    put(k[e]);
+    for (unsigned i = 0; i < k[e]; i++)
+        put_term(range[e][i], 2);
+}
+
+static void put_quantifier(unsigned most)
+{
+    put(0x14 + texts_below(2));
+    scope[variables] = between(1, most);
+    put(scope[variables++]);
+    quantifiers++;
+}
+
+static void put_formula(unsigned depth)
+{
+    unsigned kind = texts_below(100);
+    if (depth == 0 || kind < 12) {
+        if (chance(75))
+            put_instance();
+        else
+            put(0x10 + texts_below(2));
+    } else if (kind < 35) { /* a test that guards */
+        put(0x12 + texts_below(2));
+        put(0x16 + texts_below(4));
+        put_term(16, 1);
+        put_term(16, 1);
+        put_formula(depth - 1);
+    } else if (kind < 52 && quantifiers < 4) {
+        put_quantifier(chance(80) ? 3 : 16);
+        put_formula(depth - 1);
+        variables--;
+        quantifiers--;
+    } else {
+        put(0x12 + texts_below(2));
+        put_formula(depth - 1);
+        put_formula(depth - 1);
+    }
+}
+
+static void body_by_chance(unsigned e)
+{
+    variables = k[e];
+    quantifiers = 0;
+    memcpy(scope, range[e], sizeof range[e]);
+    while (quantifiers < 4 && chance(quantifiers == 0 ? 5 : 60))
+        put_quantifier(2);
+    if (quantifiers == 4 && chance(50)) {
+        put(0x14); /* a fifth, which is one too many */
+        put(1);
+    }
+    put_formula(between(1, 5));
+}
+
+/* ---- a body with an own formula for each value of its first parameter ------------------------- */
+
+static void put_fixed_instance(void)
+{
+    unsigned e = texts_below(count);
+    put(0x1a);
+    put(e);
+    put(k[e]);
+    for (unsigned i = 0; i < k[e]; i++) {
+        put(0x20);
+        put(texts_below(range[e][i]));
+    }
+}
+
+static void body_by_cases(unsigned e)
+{
+    for (unsigned v = 0; v < (k[e] == 0 ? 1 : range[e][0]); v++) {
+        if (k[e] > 0) { /* or, and, the parameter is v */
+            static const uint8_t when[] = {0x13, 0x12, 0x16, 0x21, 0x00, 0x20};
+            for (unsigned i = 0; i < sizeof when; i++)
+                put(when[i]);
+            put(v);
+        }
+        for (unsigned parts = between(1, 3); parts > 1; parts--) {
+            put(0x12 + texts_below(2));
+            put_fixed_instance();
+        }
+        put_fixed_instance();
+    }
+    if (k[e] > 0)
+        put(0x10);
+}
+
+/* ---- a body that walks: instances with shifted arguments, some behind a test -------------------- */
+
+static void put_shifted_instance(unsigned me)
+{
+    unsigned e = chance(60) ? me : texts_below(count);
+    put(0x1a);
+    put(e);
+    put(k[e]);
+    for (unsigned i = 0; i < k[e]; i++) {
+        if (variables > i && scope[i] <= range[e][i] && chance(40)) {
+            put(0x21);
+            put(i);
+        } else {
+            put(0x22 + chance(20));
+            put(range[e][i]);
+            put_term(16, 0);
+            put_term(16, 0);
+        }
+    }
+}
+
+static void body_that_walks(unsigned e)
+{
+    variables = k[e];
+    quantifiers = 0;
+    memcpy(scope, range[e], sizeof range[e]);
+    if (chance(25))
+        put_quantifier(4);
+    for (unsigned parts = between(1, 4); parts > 1; parts--) {
+        put(0x12 + texts_below(2));
+        if (chance(40)) { /* `and` with the test, or `or` */
+            put(0x12 + texts_below(2));
+            put(0x16 + texts_below(4));
+            put_term(16, 0);
+            put_term(16, 0);
+        }
+        put_shifted_instance(e);
+    }
+    put_shifted_instance(e);
+}
+
+/* ---- lines ------------------------------------------------------------------------------------ */
+
+static size_t add_line(uint8_t *text, size_t length)
+{
+    for (unsigned i = 0; i < frame_length; i++) {
+        text[length++] = (uint8_t)"0123456789abcdef"[frame[i] / 16];
+        text[length++] = (uint8_t)"0123456789abcdef"[frame[i] % 16];
+    }
+    text[length++] = '\n';
+    return length;
+}
+
+static size_t add_note(uint8_t *text, size_t length)
+{
+    unsigned bytes = chance(5) ? 255 : texts_below(12);
+    frame_length = 0;
+    put(3);
+    for (unsigned i = 0; i < bytes; i++)
+        put(texts_below(256));
+    return add_line(text, length);
+}
+
+static size_t model(uint8_t *text)
+{
+    static void (*const bodies[])(unsigned) = {body_by_chance, body_by_cases, body_that_walks};
+    static unsigned parameters[][2] = {{0, 1}, {0, 1}, {0, 3}, {1, 3}, {2, 2}, {2, 4}, {0, 4}};
+    static unsigned ranges[][2] = {{1, 3}, {1, 9}, {1, 5}, {2, 6}, {6, 16}, {5, 16}, {1, 16}};
+    size_t length = 0;
+    unsigned kind = texts_below(3), size = texts_below(9) % 7, e;
+    plan(between(1, size < 3 ? 6 : 4) + 2 * chance(10), parameters[size], ranges[size]);
+    for (e = 0; e < count; e++) {
+        if (chance(15))
+            length = add_note(text, length);
+        put_head(e);
+        bodies[kind](e);
+        while (frame_length > 256) {
+            put_head(e);
+            body_by_chance(e);
+        }
+        length = add_line(text, length);
+    }
+    if (chance(15))
+        length = add_note(text, length);
+    e = texts_below(count);
+    frame_length = 0;
+    put(2);
+    put(e);
+    for (unsigned i = 0; i < k[e]; i++)
+        put(texts_below(range[e][i]));
+    length = add_line(text, length);
+    while (chance(10))
+        length = add_note(text, length);
+    return length;
+}
+
+/* ---- damage ------------------------------------------------------------------------------------ */
+
+static size_t cut(uint8_t *text, size_t length, size_t from, size_t bytes)
+{
+    memmove(text + from, text + from + bytes, length - from - bytes);
+    return length - bytes;
+}
+
+static size_t widen(uint8_t *text, size_t length, size_t at, size_t bytes)
+{
+    memmove(text + at + bytes, text + at, length - at);
+    return length + bytes;
+}
+
+static size_t damage(uint8_t *text, size_t length)
+{
+    size_t at, from, end;
+    if (length == 0)
+        return 0;
+    at = texts_below((unsigned)length);
+    for (from = at; from > 0 && text[from - 1] != '\n'; from--)
+        ;
+    for (end = at; end < length && text[end] != '\n'; end++)
+        ;
+    end += end < length;
+    switch (texts_below(12)) {
+    case 0: /* any byte for a byte */
+        text[at] = (uint8_t)texts_below(256);
+        return length;
+    case 1: /* a small number where one stood */
+        at -= (at - from) % 2;
+        if (at + 1 < length && text[at + 1] != '\n') {
+            text[at] = '0';
+            text[at + 1] = (uint8_t)"0123456789abcdef"[texts_below(16)];
+        }
+        return length;
+    case 2: /* a capital digit */
+        if (text[at] >= 'a' && text[at] <= 'f')
+            text[at] = (uint8_t)(text[at] - 'a' + 'A');
+        return length;
+    case 3: /* a character is dropped */
+        return cut(text, length, at, 1);
+    case 4: /* two digits are dropped */
+        return at + 1 < length ? cut(text, length, at - (at - from) % 2, 2) : length;
+    case 5: /* a character is added */
+        length = widen(text, length, at, 1);
+        text[at] = (uint8_t)"0123456789abcdef\n\r G"[texts_below(20)];
+        return length;
+    case 6: /* two digits are added */
+        at -= (at - from) % 2;
+        length = widen(text, length, at, 2);
+        text[at] = (uint8_t)"012"[texts_below(3)];
+        text[at + 1] = (uint8_t)"0123456789abcdef"[texts_below(16)];
+        return length;
+    case 7: /* a line is dropped */
+        return cut(text, length, from, end - from);
+    case 8: /* a line is doubled */
+        if (length + (end - from) > 40000)
+            return length;
+        length = widen(text, length, end, end - from);
+        memcpy(text + end, text + from, end - from);
+        return length;
+    case 9: /* no 0a at the end, or more than one */
+        if (chance(50))
+            return length - 1;
+        text[length] = '\n';
+        return length + 1;
+    default: /* a digit for a digit */
+        if (text[at] != '\n')
+            text[at] = (uint8_t)"0123456789abcdef"[texts_below(16)];
+        return length;
+    }
+}
+
+/* ---- other texts --------------------------------------------------------------------------------- */
+
+static size_t noise(uint8_t *text, const char *characters, unsigned kinds, unsigned most)
+{
+    size_t length = texts_below(most + 1);
+    for (size_t i = 0; i < length; i++)
+        text[i] = (uint8_t)(characters == NULL ? texts_below(256) : (unsigned)characters[texts_below(kinds)]);
+    return length;
+}
+
+/* A model filled up with notes to about the longest text there may be. */
+static size_t filled(uint8_t *text)
+{
+    size_t length = model(text), aim = 32768 + texts_below(3) - 1;
+    if (chance(20))
+        aim = 32768 + texts_below(7000);
+    while (length + 513 < aim) {
+        memset(text + length, '3', 512);
+        text[length] = '0';
+        text[length + 512] = '\n';
+        length += 513;
+    }
+    while (length < aim) {
+        text[length] = length % 2 ? '0' : '3';
+        length++;
+    }
+    text[length - 1] = '\n';
+    return length;
+}
+
+size_t texts_next(uint8_t *text)
+{
+    unsigned kind = texts_below(1000);
+    size_t length;
+    if (kind < 6)
+        return filled(text);
+    if (kind < 12)
+        return noise(text, "0123456789abcdef0123\n", 21, 40);
+    if (kind < 18)
+        return noise(text, "010203000111\n", 13, 400);
+    if (kind < 24)
+        return noise(text, NULL, 0, kind < 20 ? 40000 : 60);
+    if (kind < 26)
+        return 0;
+    length = model(text);
+    if (kind < 500)
+        return length;
+    for (unsigned times = between(1, 3); times > 0; times--)
+        length = damage(text, length);
+    return length;
+}

@@ -1,0 +1,24 @@
+/* A plain checker of models, to compare the proved one with. It shares no code with it. */
+#ifndef REFERENCE_H
+#define REFERENCE_H
+
+#include <stddef.h>
+#include <stdint.h>
+
+enum { REFERENCE_MOST = 7693 }; /* no answer has more bytes */
+
+/* Writes what the checking program prints for this text and gives the number of bytes.
+   `out` must have room for REFERENCE_MOST bytes. */
+size_t reference_print(const uint8_t *text, size_t length, uint8_t *out);
+
+/* The refusal's number and line for the last text printed (0 and 0: a verdict), how many
+   instances were reached, and how many formulas and terms were met while it was found and solved,
+   each right side counted as a whole with its quantifiers written out. */
+extern unsigned reference_number, reference_line, reference_reached;
+extern unsigned long reference_steps;
+
+/* Solves the last text printed again, by the definition itself: over all arguments in range,
+   every candidate set tried. 1: the same values; 0: other values; -1: too large for that. */
+int reference_agrees(void);
+
+#endif
