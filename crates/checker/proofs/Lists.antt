@@ -1,4 +1,5 @@
--- Facts of `laid`'s form, take n es ++ drop n ys, on lists of anything.
+-- Facts of `laid`'s form, take n es ++ drop n ys.
+-- They hold for lists of anything, by the library's laws on lists.
 use mathlib.Core.Path.{_≡_, refl, ap}
 use Prim.Native.Nat.{ℕ, zero, suc, _<_, _≤_}
 use native.Mathlib.Nat.{not-suc-le-zero, le-of-suc-le-suc}

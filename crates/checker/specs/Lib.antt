@@ -1,3 +1,4 @@
 pub mod Records
 pub mod Promises
 pub mod Prepared
+pub mod Lent

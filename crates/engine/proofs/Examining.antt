@@ -37,10 +37,10 @@ use Rattle.engine.specs.Decoded.{equation-at, body-in, Decoded}
 use Rattle.engine.specs.Sides.{equation-of, formula-in, numbered-system, Ready, AllReady}
 use Rattle.engine.specs.Solved.{solved}
 use Rattle.engine.specs.SolvedMeaning.{Stored, solved-words, all-ready}
-use Rattle.engine.specs.DecodedModel.{Sized, decoded-formula, decoded-model, stored-in}
+use Rattle.engine.specs.DecodedModel.{Sized, decoded-formula, decoded-model, model-length, stored-in}
 use Rattle.engine.specs.Found.{model-in, instance-in, Searchable, Found}
 use Rattle.engine.specs.Examined.{Judged}
-use Rattle.engine.proofs.Finding.{model-length, signature-there}
+use Rattle.engine.proofs.Finding.{signature-there}
 
 -- an answer that is a verdict
 abbrev pub judgement : ℕ → ℕ → ℕ → List ℕ → Answer
@@ -74,7 +74,7 @@ module _ (t : List ℕ) (accepted : reading t .number ≡ 0) (bodies : List ℕ)
   well = reading-well-formed t accepted
 
   model-count : length (the-model t) ≡ count
-  model-count = sym (ap length same-model) ∙ model-length bodies equations 0 count
+  model-count = sym (ap length same-model) ∙ model-length bodies equations count 0
 
   abbrev Typed : Instance → Type 0
   Typed i = Is (typed (signatures (the-model t)) i)

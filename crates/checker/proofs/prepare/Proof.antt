@@ -1,4 +1,5 @@
--- `checker::prepare` meets its contract: the branch's test is that of `prepared`.
+-- `checker::prepare` meets its contract.
+-- The branch's test is that of `prepared`.
 use mathlib.Core.Path.{refl}
 use borrow.Author.Tests.{eq-eqb, ne-eqb}
 use borrow.Author.Needs.{needs}

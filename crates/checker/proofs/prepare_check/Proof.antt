@@ -1,4 +1,5 @@
--- `checker::prepare_check` meets its contract: the short list is judged before the text is examined, and then the table is as it was.
+-- `checker::prepare_check` meets its contract.
+-- The short list is judged before the text is examined, and then the table is as it was.
 use Rattle.checker.proofs.Agree.{short-check, long-check}
 use borrow.Author.Needs.{needs}
 use Rattle.checker.proofs.prepare_check.Statement.{statement}

@@ -1,4 +1,5 @@
--- `checker::prepare_read` meets its contract: the short list is judged before the text is read.
+-- `checker::prepare_read` meets its contract.
+-- The short list is judged before the text is read.
 use Rattle.checker.proofs.Agree.{short-read, long-read}
 use borrow.Author.Needs.{needs}
 use Rattle.checker.proofs.prepare_read.Statement.{statement}

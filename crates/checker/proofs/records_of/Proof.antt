@@ -1,4 +1,5 @@
--- `checker::records_of` meets its contract: before turn i the first i records are those of the first i equations.
+-- `checker::records_of` meets its contract.
+-- Before turn i the first i records are those of the first i equations.
 use Prim.Native.Nat.{ℕ, _≤_, _<_, _-_, _+_}
 use mathlib.Core.Path.{_≡_, refl, sym, _∙_, ap}
 use mathlib.Core.List.{List, map}

@@ -1,4 +1,5 @@
--- `devashtor::main` meets its contract: what is written lies within the buffer, so that it can be lent to the write.
+-- `devashtor::main` meets its contract.
+-- What is written lies within the buffer, so that it can be lent to the write.
 use mathlib.Core.Path.{sym}
 use lib.Seq.{length-take-le}
 use Rattle.printing.proofs.Answered.{written-fits}

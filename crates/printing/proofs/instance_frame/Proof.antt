@@ -1,4 +1,5 @@
--- `printing::instance_frame` meets its contract: the value is stored after the arguments, by cases on how many there are.
+-- `printing::instance_frame` meets its contract.
+-- The value is stored after the arguments, by cases on how many there are.
 use Prim.Native.Nat.{_/_, _%_}
 use mathlib.Core.Path.{_≡_, refl}
 use mathlib.Core.Bool.{Bool, true, false}

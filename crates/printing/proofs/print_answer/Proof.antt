@@ -1,4 +1,5 @@
--- `printing::print_answer` meets its contract: a short buffer stays, and else what is printed is the text's answer, which fits.
+-- `printing::print_answer` meets its contract.
+-- A short buffer stays, and else what is printed is the text's answer, which fits.
 use Prim.Native.Nat.{ℕ}
 use mathlib.Core.Path.{refl}
 use mathlib.Core.List.{List}

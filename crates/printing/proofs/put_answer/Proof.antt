@@ -1,4 +1,5 @@
--- `printing::put_answer` meets its contract: on a refusal one line, on a verdict the instances' lines and the verdict's after them.
+-- `printing::put_answer` meets its contract.
+-- On a refusal one line, on a verdict the instances' lines and the verdict's after them.
 use mathlib.Core.Path.{sym}
 use lib.ListN.{take}
 use lib.Seq.{length-take-le}

@@ -1,4 +1,5 @@
--- `printing::put_byte` meets its contract: two stores are the run of the byte's two digits.
+-- `printing::put_byte` meets its contract.
+-- Two stores are the run of the byte's two digits.
 use mathlib.Core.Path.{refl}
 use native.Mathlib.Numerals.{add-one}
 use borrow.Author.Needs.{needs}

@@ -1,4 +1,5 @@
--- `printing::put_instances` meets its contract: the lines still to be written from the place on, over what is there, are all lines over what was there.
+-- `printing::put_instances` meets its contract.
+-- The lines still to be written from the place on, over what is there, are all lines over what was there.
 use Prim.Native.Nat.{ℕ, _≤_, _<_, _-_, _+_, _*_}
 use mathlib.Core.Path.{_≡_, refl, sym, _∙_, ap}
 use mathlib.Core.List.{List, [], _++_}

@@ -1,4 +1,5 @@
--- `printing::put_line` meets its contract: what is still to be written from the place on, over what is there, is the whole line over what was there.
+-- `printing::put_line` meets its contract.
+-- What is still to be written from the place on, over what is there, is the whole line over what was there.
 use Prim.Native.Nat.{ℕ, _≤_, _-_, _+_, _*_}
 use mathlib.Core.Path.{_≡_, refl, sym, _∙_, ap}
 use mathlib.Core.List.{List}

@@ -1,4 +1,5 @@
--- `printing::verdict_frame` meets its contract: high and low byte of each count.
+-- `printing::verdict_frame` meets its contract.
+-- High and low byte of each count.
 use mathlib.Core.Path.{refl}
 use borrow.Author.Needs.{needs}
 use Rattle.printing.proofs.verdict_frame.Statement.{statement}
