@@ -61,9 +61,9 @@ fn scope_of(w: u32, k: u8) -> Scope
 // ---- finding
 
 // How far a table is filled: its first `count` words are found; over: one more was found than there is room.
-pub struct Filled {
-    pub count: usize,
-    pub over: bool,
+struct Filled {
+    count: usize,
+    over: bool,
 }
 
 // Adds a word behind those found, unless it is there; where there is no room for it, says so.
@@ -94,9 +94,9 @@ fn add_word(table: &mut [u32], room: usize, s: Filled, w: u32) -> Filled
 // ---- gathering
 
 // Whether something is left of a formula, and where it ends.
-pub struct Openness {
-    pub left: bool,
-    pub next: usize,
+struct Openness {
+    left: bool,
+    next: usize,
 }
 
 fn is_open(value: Value) -> bool
@@ -143,9 +143,9 @@ fn is_settled(kind: Kind, within: bool, all: bool) -> bool
     }
 }
 
-pub struct Gathered {
-    pub filled: Filled,
-    pub next: usize,
+struct Gathered {
+    filled: Filled,
+    next: usize,
 }
 
 // Adds the instances that are left in the formula at a place. Where it stands within a connective that nothing decides, `all` says which.
