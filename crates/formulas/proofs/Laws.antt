@@ -86,7 +86,8 @@ module _ (s : List ℕ) (k q at : ℕ) (rs : List ℕ) (sigs : List (List ℕ)) 
     told-constant b h x y = deep s at (FormulaIs true) n l i (λ m _. rw (h, y) (told x))
 
     pub told-join : {ok : Bool} (all : Bool) → kind-of (getD s at 0) ≡ Join all
-        → ((m : ℕ) → length s ≤ m + (at + 1) → Told (λ fs. all-fit sigs rs (operands-of (getD s at 0)) fs) v e (in-row (formula-at m s k q) (operands-of (getD s at 0)) (at + 1)) ok) → FormulaIs ok n
+        → ((m : ℕ) → length s ≤ m + (at + 1) → Told (λ fs. all-fit sigs rs (operands-of (getD s at 0)) fs) v e (in-row (formula-at m s k q) (operands-of (getD s at 0)) (at + 1)) ok)
+        → FormulaIs ok n
     unfolding formula-at formula-of-kind fits
     told-join {ok} all h f =
         deep s at (FormulaIs ok) n l i (λ m l′. rw h (told-last _ (f m l′) (λ fs x. x ∙ rw (operands-join (getD s at 0) all h) (two-fit sigs rs fs))))
@@ -101,7 +102,8 @@ module _ (s : List ℕ) (k q at : ℕ) (rs : List ℕ) (sigs : List (List ℕ)) 
       told-quantifier-no d r = deep s at (FormulaIs false) n l i (λ m _. rw h (told-when _ (lt-ltb _ _ d) (told-unless _ _ r)))
 
       pub told-quantifier : {k′ r : ℕ} {rs′ : List ℕ} {ok : Bool} → q < 4 → r ≡ getD s (at + 1) 0 → is-range r ≡ true → k′ ≡ k + 1 → rs′ ≡ rs ++ (r ∷ [])
-          → ((m : ℕ) → length s ≤ m + (at + 2) → Told (λ fs. all-fit sigs rs′ (operands-of (getD s at 0) - 1) fs) v e (in-row (formula-at m s k′ (q + 1)) (operands-of (getD s at 0) - 1) (at + 2)) ok)
+          → ((m : ℕ) → length s ≤ m + (at + 2) → Told (λ fs. all-fit sigs rs′ (operands-of (getD s at 0) - 1) fs) v e
+          (in-row (formula-at m s k′ (q + 1)) (operands-of (getD s at 0) - 1) (at + 2)) ok)
           → FormulaIs ok n
       unfolding formula-at formula-of-kind fits
       told-quantifier {r} {ok} d er ir ek es f =

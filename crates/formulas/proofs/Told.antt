@@ -2,7 +2,7 @@
 -- By cases on what was told; where there is a byte the decoder is deep enough for one step.
 use Prim.Native.Nat.{ℕ, zero, suc, _+_, _≤_, _<_}
 use native.Mathlib.Omega.{arith}
-use mathlib.Core.Path.{_≡_, refl}
+use mathlib.Core.Path.{_≡_, refl, sym, ap, _∙_}
 use mathlib.Core.Bool.{Bool, true, false, _&&_}
 use mathlib.Core.List.{List}
 use lib.Dec.{eqb}
@@ -12,6 +12,10 @@ use Rattle.meaning.specs.Formulas.{Formula, constant}
 use Rattle.formulas.specs.Decode.{Parsed, some, then, when}
 use Rattle.formulas.specs.Bodies.{found, ends}
 use Rattle.formulas.specs.Contract.{Told, refused, told}
+
+-- what a function says of the byte that was read, it says of the byte that stands there
+pub of-byte : {A : Type 0} (f : ℕ → A) {read there : ℕ} {x y : A} → read ≡ there → x ≡ f read → x ≡ y → f there ≡ y
+of-byte f b e k = ap f (sym b) ∙ sym e ∙ k
 
 pub and-same : (a b : Bool) → a && b ≡ a and b
 unfolding _and_

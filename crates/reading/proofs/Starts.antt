@@ -103,6 +103,7 @@ module _ (m : Model) (l : m .count ≤ length (m .equations)) {i : ℕ} (e : i �
   unfolding start-right typed _and_
   start-unnamed h = rw (signatures-length (m .equations) (m .count) l, ← e, le-ltb i (m .count) h) (sym (&&-false (leb (m .start .count) 4)))
 
-  pub start-named : {r : Bool} → i < m .count → r ≡ leb (m .start .count) 4 && within (take (m .start .count) (m .start .arguments)) (ranges-of (getD (m .equations) i blank)) → r ≡ start-right m
+  pub start-named : {r : Bool} → i < m .count → r ≡ leb (m .start .count) 4 && within (take (m .start .count) (m .start .arguments)) (ranges-of (getD (m .equations) i blank))
+      → r ≡ start-right m
   unfolding start-right typed _and_
   start-named h f = rw (signatures-length (m .equations) (m .count) l, ← e, lt-ltb i (m .count) h, signature-at (m .equations) (m .count) i h) f

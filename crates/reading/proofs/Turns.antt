@@ -56,7 +56,8 @@ module _ (t : List ℕ) (at end : ℕ) (l : at < length t) (e : end ≡ at + fir
       let k : end - at ≡ first-length (drop at t) = omega arith in
       let n : at + (first-length (drop at t) + 1) ≡ end + 1 = omega arith in
       let d : length (drop at t) ≡ length t - at = length-drop at t in
-      let q : ltb (first-length (drop at t)) (length (drop at t)) ≡ ltb end (length t) = same-ltb (first-length (drop at t)) (length (drop at t)) end (length t) _ refl (λ x. omega arith) (λ x. omega arith) in
+      let q : ltb (first-length (drop at t)) (length (drop at t)) ≡ ltb end (length t) = same-ltb (first-length (drop at t)) (length (drop at t)) end (length t) _ refl (λ x. omega arith)
+      (λ x. omega arith) in
       lines-some at (drop at t) (omega arith) ∙ rw (q, drop-drop (first-length (drop at t) + 1) at t, n, k) refl
 
   module _ (m : Model) (i : ℕ) (r : Reading) (rr : r ≡ read-line t m i (line-at t at end)) where

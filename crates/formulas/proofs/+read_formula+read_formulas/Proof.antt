@@ -15,6 +15,7 @@ use Rattle.formulas.specs.Bodies.{signatures-of}
 use Rattle.formulas.proofs.Laws.{told-no-formula, told-constant, told-join, told-quantifier-deep, told-quantifier-no}
 use Rattle.formulas.proofs.Laws.{told-quantifier, told-compare, told-instance, told-all-read, told-next, told-next-stop}
 use Prim.Native.Nat.{ℕ, suc, _<_, _+_, _-_, _*_}
+use Rattle.formulas.proofs.Told.{of-byte}
 use borrow.Fn.Kinds.{In}
 use borrow.Fn.PlainCycle.{Measures, is, falls, and}
 use Rattle.formulas.proofs.read_formula.Reads as read-formula
@@ -67,13 +68,40 @@ read-formulas-below t =
     read-formulas.Pre
 
 abbrev read-formula-calls : ℕ → read-formula-lts.Claims
-read-formula-calls t = (result-reads.Asked, result-reads.Learnt, byte-reads.Asked, byte-reads.Learnt, operands-of-reads.Asked, operands-of-reads.Learnt, wide-reads.Asked, wide-reads.Learnt, kind-of-reads.Asked, kind-of-reads.Learnt, read-formulas-below t, read-formulas.Post, is-range-reads.Asked, is-range-reads.Learnt, push-reads.Asked, push-reads.Learnt, read-terms-reads.Asked, read-terms-reads.Learnt, read-instance-reads.Asked, read-instance-reads.Learnt)
+read-formula-calls t = (
+  result-reads.Asked,
+  result-reads.Learnt,
+  byte-reads.Asked,
+  byte-reads.Learnt,
+  operands-of-reads.Asked,
+  operands-of-reads.Learnt,
+  wide-reads.Asked,
+  wide-reads.Learnt,
+  kind-of-reads.Asked,
+  kind-of-reads.Learnt,
+  read-formulas-below t,
+  read-formulas.Post,
+  is-range-reads.Asked,
+  is-range-reads.Learnt,
+  push-reads.Asked,
+  push-reads.Learnt,
+  read-terms-reads.Asked,
+  read-terms-reads.Learnt,
+  read-instance-reads.Asked,
+  read-instance-reads.Learnt,
+)
 
 abbrev read-formulas-calls : ℕ → read-formulas-lts.Claims
-read-formulas-calls t = (result-reads.Asked, result-reads.Learnt, read-formula-below t, read-formula.Post, read-formulas-below t, read-formulas.Post, and-reads.Asked, and-reads.Learnt)
-
-read-formula-result-requires : (t : ℕ) → read-formula-lts.Need-result-requires (read-formula-calls t) (read-formula-at t) read-formula.Post
-read-formula-result-requires t c κs = search needs
+read-formulas-calls t = (
+  result-reads.Asked,
+  result-reads.Learnt,
+  read-formula-below t,
+  read-formula.Post,
+  read-formulas-below t,
+  read-formulas.Post,
+  and-reads.Asked,
+  and-reads.Learnt,
+)
 
 read-formula-returns : (t : ℕ) → read-formula-lts.Need-returns (read-formula-calls t) (read-formula-at t) read-formula.Post
 read-formula-returns t c =
@@ -81,92 +109,48 @@ read-formula-returns t c =
     let s = bytes-at (a .text .now) (a .body .place) (a .body .size) in
     let z : getD s (a .at) 0 ≡ 0 = byte-beyond (a .text .now) (a .body .place) (a .body .size) (a .at) (c .before .if1 .taken) in
     let r = c .result .ensures in
-    rw (r .0, r .1 .0, r .1 .1) (record { on = omega arith; tells = λ n l. told-no-formula s (a .scope .count) (a .q) (a .at) (seen (a .scope)) (signatures-of (a .equations) (a .count)) _ _ n (rw z no-kind) })
-
-read-formula-byte-requires : (t : ℕ) → read-formula-lts.Need-byte-requires (read-formula-calls t) (read-formula-at t) read-formula.Post
-read-formula-byte-requires t c κs = search needs
-
-read-formula-operands-of-requires : (t : ℕ) → read-formula-lts.Need-operands-of-requires (read-formula-calls t) (read-formula-at t) read-formula.Post
-read-formula-operands-of-requires t c κs = search needs
-
-read-formula-wide-requires : (t : ℕ) → read-formula-lts.Need-wide-requires (read-formula-calls t) (read-formula-at t) read-formula.Post
-read-formula-wide-requires t c κs = search needs
-
-read-formula-add-after : (t : ℕ) → read-formula-lts.Need-add-after (read-formula-calls t) (read-formula-at t) read-formula.Post
-read-formula-add-after t c = search needs
-
-read-formula-add-next : (t : ℕ) → read-formula-lts.Need-add-next (read-formula-calls t) (read-formula-at t) read-formula.Post
-read-formula-add-next t c = search needs
-
-read-formula-kind-of-requires : (t : ℕ) → read-formula-lts.Need-kind-of-requires (read-formula-calls t) (read-formula-at t) read-formula.Post
-read-formula-kind-of-requires t c κs = search needs
-
-read-formula-enum-told : (t : ℕ) → read-formula-lts.Need-enum-told (read-formula-calls t) (read-formula-at t) read-formula.Post
-read-formula-enum-told t c = search needs
-
-read-formula-result-requires-2 : (t : ℕ) → read-formula-lts.Need-result-requires-2 (read-formula-calls t) (read-formula-at t) read-formula.Post
-read-formula-result-requires-2 t c κs = search needs
-
-read-formula-enum-told-2 : (t : ℕ) → read-formula-lts.Need-enum-told-2 (read-formula-calls t) (read-formula-at t) read-formula.Post
-read-formula-enum-told-2 t c = search needs
-
-read-formula-result-requires-3 : (t : ℕ) → read-formula-lts.Need-result-requires-3 (read-formula-calls t) (read-formula-at t) read-formula.Post
-read-formula-result-requires-3 t c κs = search needs
-
-read-formula-enum-told-3 : (t : ℕ) → read-formula-lts.Need-enum-told-3 (read-formula-calls t) (read-formula-at t) read-formula.Post
-read-formula-enum-told-3 t c = search needs
-
-read-formula-add-read-formulas : (t : ℕ) → read-formula-lts.Need-add-read-formulas (read-formula-calls t) (read-formula-at t) read-formula.Post
-read-formula-add-read-formulas t c = search needs
+    rw (r .0, r .1 .0, r .1 .1) (record {
+      on = omega arith;
+      tells = λ n l. told-no-formula s (a .scope .count) (a .q) (a .at) (seen (a .scope))
+          (signatures-of (a .equations) (a .count)) _ _ n (rw z no-kind);
+    })
 
 read-formula-read-formulas-requires : (t : ℕ) → read-formula-lts.Need-read-formulas-requires (read-formula-calls t) (read-formula-at t) read-formula.Post
 read-formula-read-formulas-requires t c κs = omega (arith, c .before .before .before .before .operands-of .ok)
-
-read-formula-enum-told-4 : (t : ℕ) → read-formula-lts.Need-enum-told-4 (read-formula-calls t) (read-formula-at t) read-formula.Post
-read-formula-enum-told-4 t c = search needs
-
-read-formula-result-requires-4 : (t : ℕ) → read-formula-lts.Need-result-requires-4 (read-formula-calls t) (read-formula-at t) read-formula.Post
-read-formula-result-requires-4 t c κs = search needs
 
 read-formula-returns-2 : (t : ℕ) → read-formula-lts.Need-returns-2 (read-formula-calls t) (read-formula-at t) read-formula.Post
 read-formula-returns-2 t c =
     let a = c .before .before .before .before .before .before .before .before .before .before .before .args in
     let s = bytes-at (a .text .now) (a .body .place) (a .body .size) in
     let i : a .at < length s = omega (arith, length-bytes (a .text .now) (a .body .place) (a .body .size), c .before .before .before .before .before .before .before .before .if1 .left) in
-    let k = ap kind-of (sym (c .before .before .before .before .before .before .before .byte .ensures)) ∙ sym (c .before .before .before .before .kind-of .ensures) ∙ c .before .before .enum-told4 .given .1 in
+    let k = of-byte kind-of (c .before .before .before .before .before .before .before .byte .ensures) (c .before .before .before .before .kind-of .ensures)
+    (c .before .before .enum-told4 .given .1) in
     let r = c .result4 .ensures in
-    rw (r .0, r .1 .0, r .1 .1) (record { on = omega arith; tells = λ n l. told-quantifier-deep s (a .scope .count) (a .q) (a .at) (seen (a .scope)) (signatures-of (a .equations) (a .count)) _ _ n l i _ k (c .before .if2 .taken) })
-
-read-formula-add-byte : (t : ℕ) → read-formula-lts.Need-add-byte (read-formula-calls t) (read-formula-at t) read-formula.Post
-read-formula-add-byte t c = search needs
-
-read-formula-byte-requires-2 : (t : ℕ) → read-formula-lts.Need-byte-requires-2 (read-formula-calls t) (read-formula-at t) read-formula.Post
-read-formula-byte-requires-2 t c κs = search needs
-
-read-formula-is-range-requires : (t : ℕ) → read-formula-lts.Need-is-range-requires (read-formula-calls t) (read-formula-at t) read-formula.Post
-read-formula-is-range-requires t c κs = search needs
-
-read-formula-result-requires-5 : (t : ℕ) → read-formula-lts.Need-result-requires-5 (read-formula-calls t) (read-formula-at t) read-formula.Post
-read-formula-result-requires-5 t c κs = search needs
+    rw (r .0, r .1 .0, r .1 .1) (record {
+      on = omega arith;
+      tells = λ n l. told-quantifier-deep s (a .scope .count) (a .q) (a .at) (seen (a .scope))
+          (signatures-of (a .equations) (a .count)) _ _ n l i _ k (c .before .if2 .taken);
+    })
 
 read-formula-returns-3 : (t : ℕ) → read-formula-lts.Need-returns-3 (read-formula-calls t) (read-formula-at t) read-formula.Post
 read-formula-returns-3 t c =
     let a = c .before .before .before .before .before .before .before .before .before .before .before .before .before .before .args in
     let s = bytes-at (a .text .now) (a .body .place) (a .body .size) in
-    let i : a .at < length s = omega (arith, length-bytes (a .text .now) (a .body .place) (a .body .size), c .before .before .before .before .before .before .before .before .before .before .before .if1 .left) in
-    let k = ap kind-of (sym (c .before .before .before .before .before .before .before .before .before .before .byte .ensures)) ∙ sym (c .before .before .before .before .before .before .before .kind-of .ensures) ∙ c .before .before .before .before .before .enum-told4 .given .1 in
-    let h = ap is-range (sym (c .before .before .before .byte2 .ensures)) ∙ sym (c .before .before .is-range .ensures) ∙ not-true _ (c .before .if3 .taken) in
+    let i : a .at < length s = omega (
+      arith,
+      length-bytes (a .text .now) (a .body .place)
+          (a .body .size),
+      c .before .before .before .before .before .before .before .before .before .before .before .if1 .left,
+    ) in
+    let k = of-byte kind-of (c .before .before .before .before .before .before .before .before .before .before .byte .ensures)
+    (c .before .before .before .before .before .before .before .kind-of .ensures) (c .before .before .before .before .before .enum-told4 .given .1) in
+    let h = of-byte is-range (c .before .before .before .byte2 .ensures) (c .before .before .is-range .ensures) (not-true _ (c .before .if3 .taken)) in
     let r = c .result5 .ensures in
-    rw (r .0, r .1 .0, r .1 .1) (record { on = omega arith; tells = λ n l. told-quantifier-no s (a .scope .count) (a .q) (a .at) (seen (a .scope)) (signatures-of (a .equations) (a .count)) _ _ n l i _ k (c .before .before .before .before .if2 .left) h })
-
-read-formula-push-requires : (t : ℕ) → read-formula-lts.Need-push-requires (read-formula-calls t) (read-formula-at t) read-formula.Post
-read-formula-push-requires t c κs = search needs
-
-read-formula-add-read-formulas-2 : (t : ℕ) → read-formula-lts.Need-add-read-formulas-2 (read-formula-calls t) (read-formula-at t) read-formula.Post
-read-formula-add-read-formulas-2 t c = search needs
-
-read-formula-add-read-formulas-3 : (t : ℕ) → read-formula-lts.Need-add-read-formulas-3 (read-formula-calls t) (read-formula-at t) read-formula.Post
-read-formula-add-read-formulas-3 t c = search needs
+    rw (r .0, r .1 .0, r .1 .1) (record {
+      on = omega arith;
+      tells = λ n l. told-quantifier-no s (a .scope .count) (a .q) (a .at) (seen (a .scope))
+          (signatures-of (a .equations) (a .count)) _ _ n l i _ k (c .before .before .before .before .if2 .left) h;
+    })
 
 read-formula-sub-read-formulas : (t : ℕ) → read-formula-lts.Need-sub-read-formulas (read-formula-calls t) (read-formula-at t) read-formula.Post
 read-formula-sub-read-formulas t c =
@@ -176,67 +160,73 @@ read-formula-sub-read-formulas t c =
 read-formula-read-formulas-requires-2 : (t : ℕ) → read-formula-lts.Need-read-formulas-requires-2 (read-formula-calls t) (read-formula-at t) read-formula.Post
 read-formula-read-formulas-requires-2 t c κs =
     let k = sym (c .before .before .before .before .before .before .before .kind-of .ensures) ∙ c .before .before .before .before .before .enum-told4 .given .1 in
-    let h = c .push .ensures .1 (omega (arith, c .before .before .before .before .if2 .left, c .before .before .before .before .before .before .before .before .before .before .before .before .before .before .pre .1 .1 .0)) in
+    let h = c .push .ensures .1
+    (omega (arith, c .before .before .before .before .if2 .left, c .before .before .before .before .before .before .before .before .before .before .before .before .before .before .pre .1 .1 .0)) in
     omega (arith, h .0, c .before .before .before .before .before .before .before .before .before .operands-of .ensures ∙ operands-quantifier _ _ k)
-
-read-formula-enum-told-5 : (t : ℕ) → read-formula-lts.Need-enum-told-5 (read-formula-calls t) (read-formula-at t) read-formula.Post
-read-formula-enum-told-5 t c = search needs
-
-read-formula-add-read-terms : (t : ℕ) → read-formula-lts.Need-add-read-terms (read-formula-calls t) (read-formula-at t) read-formula.Post
-read-formula-add-read-terms t c = search needs
 
 read-formula-read-terms-requires : (t : ℕ) → read-formula-lts.Need-read-terms-requires (read-formula-calls t) (read-formula-at t) read-formula.Post
 read-formula-read-terms-requires t c κs =
     let k = sym (c .before .before .kind-of .ensures) ∙ c .enum-told5 .given .1 in
     omega (arith, c .before .before .before .before .operands-of .ensures ∙ operands-compare _ _ k)
 
-read-formula-result-requires-6 : (t : ℕ) → read-formula-lts.Need-result-requires-6 (read-formula-calls t) (read-formula-at t) read-formula.Post
-read-formula-result-requires-6 t c κs = search needs
-
-read-formula-enum-told-6 : (t : ℕ) → read-formula-lts.Need-enum-told-6 (read-formula-calls t) (read-formula-at t) read-formula.Post
-read-formula-enum-told-6 t c = search needs
-
-read-formula-read-instance-requires : (t : ℕ) → read-formula-lts.Need-read-instance-requires (read-formula-calls t) (read-formula-at t) read-formula.Post
-read-formula-read-instance-requires t c κs = omega arith
-
 read-formula-returns-4 : (t : ℕ) → read-formula-lts.Need-returns-4 (read-formula-calls t) (read-formula-at t) read-formula.Post
 read-formula-returns-4 t c =
     let a = c .before .before .before .before .before .before .before .before .before .before .args in
     let s = bytes-at (a .text .now) (a .body .place) (a .body .size) in
-    let k = ap kind-of (sym (c .before .before .before .before .before .before .byte .ensures)) ∙ sym (c .before .before .before .kind-of .ensures) ∙ c .before .enum-told .given .1 in
+    let k = of-byte kind-of (c .before .before .before .before .before .before .byte .ensures) (c .before .before .before .kind-of .ensures) (c .before .enum-told .given .1) in
     let r = c .result2 .ensures in
-    rw (r .0, r .1 .0, r .1 .1) (record { on = omega arith; tells = λ n l. told-no-formula s (a .scope .count) (a .q) (a .at) (seen (a .scope)) (signatures-of (a .equations) (a .count)) _ _ n k })
+    rw (r .0, r .1 .0, r .1 .1) (record {
+      on = omega arith;
+      tells = λ n l. told-no-formula s (a .scope .count) (a .q) (a .at) (seen (a .scope))
+          (signatures-of (a .equations) (a .count)) _ _ n k;
+    })
 
 read-formula-returns-5 : (t : ℕ) → read-formula-lts.Need-returns-5 (read-formula-calls t) (read-formula-at t) read-formula.Post
 read-formula-returns-5 t c =
     let a = c .before .before .before .before .before .before .before .before .before .before .args in
     let s = bytes-at (a .text .now) (a .body .place) (a .body .size) in
     let i : a .at < length s = omega (arith, length-bytes (a .text .now) (a .body .place) (a .body .size), c .before .before .before .before .before .before .before .if1 .left) in
-    let k = ap kind-of (sym (c .before .before .before .before .before .before .byte .ensures)) ∙ sym (c .before .before .before .kind-of .ensures) ∙ c .before .enum-told2 .given .1 in
+    let k = of-byte kind-of (c .before .before .before .before .before .before .byte .ensures) (c .before .before .before .kind-of .ensures) (c .before .enum-told2 .given .1) in
     let o = c .before .before .before .before .before .operands-of .ensures ∙ ap operands-of (c .before .before .before .before .before .before .byte .ensures) in
     let e = ap (λ (x : ℕ). a .at + (1 + x)) (c .before .before .before .before .wide .ensures .0 ∙ o) in
     let r = c .result3 .ensures in
-    rw (r .0, r .1 .0, r .1 .1) (record { on = omega arith; tells = λ n l. told-constant s (a .scope .count) (a .q) (a .at) (seen (a .scope)) (signatures-of (a .equations) (a .count)) _ _ n l i _ k refl e })
+    rw (r .0, r .1 .0, r .1 .1) (record {
+      on = omega arith;
+      tells = λ n l. told-constant s (a .scope .count) (a .q) (a .at) (seen (a .scope))
+          (signatures-of (a .equations) (a .count)) _ _ n l i _ k refl e;
+    })
 
 read-formula-returns-6 : (t : ℕ) → read-formula-lts.Need-returns-6 (read-formula-calls t) (read-formula-at t) read-formula.Post
 read-formula-returns-6 t c =
     let a = c .before .before .before .before .before .before .before .before .before .before .args in
     let s = bytes-at (a .text .now) (a .body .place) (a .body .size) in
     let i : a .at < length s = omega (arith, length-bytes (a .text .now) (a .body .place) (a .body .size), c .before .before .before .before .before .before .before .if1 .left) in
-    let k = ap kind-of (sym (c .before .before .before .before .before .before .byte .ensures)) ∙ sym (c .before .before .before .kind-of .ensures) ∙ c .before .enum-told3 .given .1 in
+    let k = of-byte kind-of (c .before .before .before .before .before .before .byte .ensures) (c .before .before .before .kind-of .ensures) (c .before .enum-told3 .given .1) in
     let o = c .before .before .before .before .before .operands-of .ensures ∙ ap operands-of (c .before .before .before .before .before .before .byte .ensures) in
     let p = c .read-formulas .ensures in
-    record { on = omega (arith, p .on); tells = λ n l. told-join s (a .scope .count) (a .q) (a .at) (seen (a .scope)) (signatures-of (a .equations) (a .count)) _ _ n l i _ k (λ m f. rw o at (p .tells m f)) }
+    record {
+      on = omega (arith, p .on);
+      tells = λ n l. told-join s (a .scope .count) (a .q) (a .at) (seen (a .scope)) (signatures-of (a .equations) (a .count)) _ _ n l i _ k
+          (λ m f. rw o at (p .tells m f));
+    }
 
 read-formula-returns-7 : (t : ℕ) → read-formula-lts.Need-returns-7 (read-formula-calls t) (read-formula-at t) read-formula.Post
 read-formula-returns-7 t c =
     let a = c .before .before .before .before .before .before .before .before .before .before .before .before .before .before .before .args in
     let s = bytes-at (a .text .now) (a .body .place) (a .body .size) in
-    let i : a .at < length s = omega (arith, length-bytes (a .text .now) (a .body .place) (a .body .size), c .before .before .before .before .before .before .before .before .before .before .before .before .if1 .left) in
-    let k = ap kind-of (sym (c .before .before .before .before .before .before .before .before .before .before .before .byte .ensures)) ∙ sym (c .before .before .before .before .before .before .before .before .kind-of .ensures) ∙ c .before .before .before .before .before .before .enum-told4 .given .1 in
-    let o = c .before .before .before .before .before .before .before .before .before .before .operands-of .ensures ∙ ap operands-of (c .before .before .before .before .before .before .before .before .before .before .before .byte .ensures) in
+    let i : a .at < length s = omega (
+      arith,
+      length-bytes (a .text .now) (a .body .place)
+          (a .body .size),
+      c .before .before .before .before .before .before .before .before .before .before .before .before .if1 .left,
+    ) in
+    let k = of-byte kind-of (c .before .before .before .before .before .before .before .before .before .before .before .byte .ensures)
+    (c .before .before .before .before .before .before .before .before .kind-of .ensures) (c .before .before .before .before .before .before .enum-told4 .given .1) in
+    let o = c .before .before .before .before .before .before .before .before .before .before .operands-of .ensures ∙ ap operands-of
+    (c .before .before .before .before .before .before .before .before .before .before .before .byte .ensures) in
     let r = sym (c .before .before .before .is-range .ensures) ∙ not-false _ (c .before .before .if3 .left) in
-    let h = c .before .push .ensures .1 (omega (arith, c .before .before .before .before .before .if2 .left, c .before .before .before .before .before .before .before .before .before .before .before .before .before .before .before .pre .1 .1 .0)) in
+    let h = c .before .push .ensures .1
+    (omega (arith, c .before .before .before .before .before .if2 .left, c .before .before .before .before .before .before .before .before .before .before .before .before .before .before .before .pre .1 .1 .0)) in
     let p = c .read-formulas2 .ensures in
     record {
       on = omega (arith, p .on);
@@ -249,38 +239,38 @@ read-formula-returns-8 t c =
     let a = c .before .before .before .before .before .before .before .before .before .before .before .args in
     let s = bytes-at (a .text .now) (a .body .place) (a .body .size) in
     let i : a .at < length s = omega (arith, length-bytes (a .text .now) (a .body .place) (a .body .size), c .before .before .before .before .before .before .before .before .if1 .left) in
-    let k = ap kind-of (sym (c .before .before .before .before .before .before .before .byte .ensures)) ∙ sym (c .before .before .before .before .kind-of .ensures) ∙ c .before .before .enum-told5 .given .1 in
+    let k = of-byte kind-of (c .before .before .before .before .before .before .before .byte .ensures) (c .before .before .before .before .kind-of .ensures)
+    (c .before .before .enum-told5 .given .1) in
     let o = c .before .before .before .before .before .before .operands-of .ensures ∙ ap operands-of (c .before .before .before .before .before .before .before .byte .ensures) in
     let p = c .before .read-terms .ensures in
     let r = c .result6 .ensures in
-    rw (r .0, r .1 .0, r .1 .1) (record { on = omega (arith, p .on); tells = λ n l. told-compare s (a .scope .count) (a .q) (a .at) (seen (a .scope)) (signatures-of (a .equations) (a .count)) _ _ n l i _ k (λ m f. rw o at (p .tells m f)) refl })
+    rw (r .0, r .1 .0, r .1 .1) (record {
+      on = omega (arith, p .on);
+      tells = λ n l. told-compare s (a .scope .count) (a .q) (a .at) (seen (a .scope))
+          (signatures-of (a .equations) (a .count)) _ _ n l i _ k (λ m f. rw o at (p .tells m f)) refl;
+    })
 
 read-formula-returns-9 : (t : ℕ) → read-formula-lts.Need-returns-9 (read-formula-calls t) (read-formula-at t) read-formula.Post
 read-formula-returns-9 t c =
     let a = c .before .before .before .before .before .before .before .before .before .before .args in
     let s = bytes-at (a .text .now) (a .body .place) (a .body .size) in
     let i : a .at < length s = omega (arith, length-bytes (a .text .now) (a .body .place) (a .body .size), c .before .before .before .before .before .before .before .if1 .left) in
-    let k = ap kind-of (sym (c .before .before .before .before .before .before .byte .ensures)) ∙ sym (c .before .before .before .kind-of .ensures) ∙ c .before .enum-told6 .given .1 in
+    let k = of-byte kind-of (c .before .before .before .before .before .before .byte .ensures) (c .before .before .before .kind-of .ensures) (c .before .enum-told6 .given .1) in
     let o = c .before .before .before .before .before .operands-of .ensures ∙ ap operands-of (c .before .before .before .before .before .before .byte .ensures) in
     let e = ap (λ (x : ℕ). a .at + (1 + x)) (c .before .before .before .before .wide .ensures .0 ∙ o) in
     let p = c .read-instance .ensures in
     record { on = omega (arith, p .on); tells = λ n l. told-instance s (a .scope .count) (a .q) (a .at) (seen (a .scope)) (signatures-of (a .equations) (a .count)) _ _ n l i k e (p .tells) }
-
-read-formulas-result-requires : (t : ℕ) → read-formulas-lts.Need-result-requires (read-formulas-calls t) (read-formulas-at t) read-formulas.Post
-read-formulas-result-requires t c κs = search needs
 
 read-formulas-returns : (t : ℕ) → read-formulas-lts.Need-returns (read-formulas-calls t) (read-formulas-at t) read-formulas.Post
 read-formulas-returns t c =
     let a = c .before .before .before .args in
     let s = bytes-at (a .text .now) (a .body .place) (a .body .size) in
     let r = c .result .ensures in
-    rw (r .0, r .1 .0, r .1 .1) (record { on = omega arith; tells = λ n l. told-all-read (signatures-of (a .equations) (a .count)) (seen (a .scope)) n s (a .scope .count) (a .q) (a .at) (a .c) (c .before .if1 .taken) refl refl })
-
-read-formulas-read-formula-requires : (t : ℕ) → read-formulas-lts.Need-read-formula-requires (read-formulas-calls t) (read-formulas-at t) read-formulas.Post
-read-formulas-read-formula-requires t c κs = omega arith
-
-read-formulas-result-requires-2 : (t : ℕ) → read-formulas-lts.Need-result-requires-2 (read-formulas-calls t) (read-formulas-at t) read-formulas.Post
-read-formulas-result-requires-2 t c κs = search needs
+    rw (r .0, r .1 .0, r .1 .1) (record {
+      on = omega arith;
+      tells = λ n l. told-all-read (signatures-of (a .equations) (a .count)) (seen (a .scope)) n s (a .scope .count) (a .q) (a .at)
+          (a .c) (c .before .if1 .taken) refl refl;
+    })
 
 read-formulas-returns-2 : (t : ℕ) → read-formulas-lts.Need-returns-2 (read-formulas-calls t) (read-formulas-at t) read-formulas.Post
 read-formulas-returns-2 t c =
@@ -290,19 +280,14 @@ read-formulas-returns-2 t c =
     let y = not-true (c .before .before .before .read-formula .result .ok) (c .before .if2 .taken) in
     let z : a .c ≡ suc (a .c - 1) = omega (arith, c .before .before .before .before .if1 .left) in
     let r = c .result2 .ensures in
-    rw (r .0, r .1 .0, r .1 .1) (record { on = omega (arith, p .on); tells = λ n l. told-next-stop (signatures-of (a .equations) (a .count)) (seen (a .scope)) n s (a .scope .count) (a .q) (a .at) (a .c) (a .c - 1) z (rw y at (p .tells n l)) })
-
-read-formulas-sub-read-formulas : (t : ℕ) → read-formulas-lts.Need-sub-read-formulas (read-formulas-calls t) (read-formulas-at t) read-formulas.Post
-read-formulas-sub-read-formulas t c = omega arith
+    rw (r .0, r .1 .0, r .1 .1) (record {
+      on = omega (arith, p .on);
+      tells = λ n l. told-next-stop (signatures-of (a .equations) (a .count)) (seen (a .scope)) n s (a .scope .count) (a .q)
+          (a .at) (a .c) (a .c - 1) z (rw y at (p .tells n l));
+    })
 
 read-formulas-read-formulas-requires : (t : ℕ) → read-formulas-lts.Need-read-formulas-requires (read-formulas-calls t) (read-formulas-at t) read-formulas.Post
 read-formulas-read-formulas-requires t c κs = omega (arith, c .before .before .read-formula .ensures .on)
-
-read-formulas-and-requires : (t : ℕ) → read-formulas-lts.Need-and-requires (read-formulas-calls t) (read-formulas-at t) read-formulas.Post
-read-formulas-and-requires t c κs = search needs
-
-read-formulas-result-requires-3 : (t : ℕ) → read-formulas-lts.Need-result-requires-3 (read-formulas-calls t) (read-formulas-at t) read-formulas.Post
-read-formulas-result-requires-3 t c κs = search needs
 
 read-formulas-returns-3 : (t : ℕ) → read-formulas-lts.Need-returns-3 (read-formulas-calls t) (read-formulas-at t) read-formulas.Post
 read-formulas-returns-3 t c =
@@ -323,6 +308,14 @@ pub +read-formula+read-formulas-spec : {M : Type 1} → statement M
 +read-formula+read-formulas-spec =
     close μ-read-formula μ-read-formulas
     (λ t. read-formula-lts.spec (read-formula-calls t) (read-formula-at t) read-formula.Post
-    (read-formula-result-requires t) (read-formula-returns t) (read-formula-byte-requires t) (read-formula-operands-of-requires t) (read-formula-wide-requires t) (read-formula-add-after t) (read-formula-add-next t) (read-formula-kind-of-requires t) (read-formula-enum-told t) (read-formula-result-requires-2 t) (read-formula-enum-told-2 t) (read-formula-result-requires-3 t) (read-formula-enum-told-3 t) (read-formula-add-read-formulas t) (read-formula-read-formulas-requires t) (read-formula-enum-told-4 t) (read-formula-result-requires-4 t) (read-formula-returns-2 t) (read-formula-add-byte t) (read-formula-byte-requires-2 t) (read-formula-is-range-requires t) (read-formula-result-requires-5 t) (read-formula-returns-3 t) (read-formula-push-requires t) (read-formula-add-read-formulas-2 t) (read-formula-add-read-formulas-3 t) (read-formula-sub-read-formulas t) (read-formula-read-formulas-requires-2 t) (read-formula-enum-told-5 t) (read-formula-add-read-terms t) (read-formula-read-terms-requires t) (read-formula-result-requires-6 t) (read-formula-enum-told-6 t) (read-formula-read-instance-requires t) (read-formula-returns-4 t) (read-formula-returns-5 t) (read-formula-returns-6 t) (read-formula-returns-7 t) (read-formula-returns-8 t) (read-formula-returns-9 t))
+    (λ c κs. search needs) (read-formula-returns t) (λ c κs. search needs) (λ c κs. search needs) (λ c κs. search needs) (λ c. search needs)
+    (λ c. search needs) (λ c κs. search needs) (λ c. search needs) (λ c κs. search needs) (λ c. search needs) (λ c κs. search needs)
+    (λ c. search needs) (λ c. search needs) (read-formula-read-formulas-requires t) (λ c. search needs) (λ c κs. search needs)
+    (read-formula-returns-2 t) (λ c. search needs) (λ c κs. search needs) (λ c κs. search needs) (λ c κs. search needs) (read-formula-returns-3 t)
+    (λ c κs. search needs) (λ c. search needs) (λ c. search needs) (read-formula-sub-read-formulas t) (read-formula-read-formulas-requires-2 t)
+    (λ c. search needs) (λ c. search needs) (read-formula-read-terms-requires t) (λ c κs. search needs) (λ c. search needs) (λ c κs. omega arith)
+    (read-formula-returns-4 t) (read-formula-returns-5 t) (read-formula-returns-6 t) (read-formula-returns-7 t) (read-formula-returns-8 t)
+    (read-formula-returns-9 t))
     (λ t. read-formulas-lts.spec (read-formulas-calls t) (read-formulas-at t) read-formulas.Post
-    (read-formulas-result-requires t) (read-formulas-returns t) (read-formulas-read-formula-requires t) (read-formulas-result-requires-2 t) (read-formulas-returns-2 t) (read-formulas-sub-read-formulas t) (read-formulas-read-formulas-requires t) (read-formulas-and-requires t) (read-formulas-result-requires-3 t) (read-formulas-returns-3 t))
+    (λ c κs. search needs) (read-formulas-returns t) (λ c κs. omega arith) (λ c κs. search needs) (read-formulas-returns-2 t) (λ c. omega arith)
+    (read-formulas-read-formulas-requires t) (λ c κs. search needs) (λ c κs. search needs) (read-formulas-returns-3 t))

@@ -15,6 +15,7 @@ use Rattle.formulas.specs.Scopes.{seen}
 use Rattle.formulas.proofs.Terms.{told-no-term, told-number-no, told-number, told-variable}
 use Rattle.formulas.proofs.Terms.{told-calculation-no, told-calculation, told-none-left, told-more, told-more-stop}
 use Prim.Native.Nat.{ℕ, suc, _<_, _+_, _-_, _*_}
+use Rattle.formulas.proofs.Told.{of-byte}
 use borrow.Fn.Kinds.{In}
 use borrow.Fn.PlainCycle.{Measures, is, falls, and}
 use Rattle.formulas.proofs.read_term.Reads as read-term
@@ -57,19 +58,46 @@ read-terms-below t =
     and 1 read-terms-kinds.ps (falls 1 read-terms-kinds.ps _<_ μ-read-terms t) read-terms.Pre
 
 abbrev read-term-calls : ℕ → read-term-lts.Claims
-read-term-calls t = (term-result-reads.Asked, term-result-reads.Learnt, byte-reads.Asked, byte-reads.Learnt, operands-of-reads.Asked, operands-of-reads.Learnt, wide-reads.Asked, wide-reads.Learnt, term-kind-of-reads.Asked, term-kind-of-reads.Learnt, variable-reads.Asked, variable-reads.Learnt, is-range-reads.Asked, is-range-reads.Learnt, read-terms-below t, read-terms.Post)
+read-term-calls t = (
+  term-result-reads.Asked,
+  term-result-reads.Learnt,
+  byte-reads.Asked,
+  byte-reads.Learnt,
+  operands-of-reads.Asked,
+  operands-of-reads.Learnt,
+  wide-reads.Asked,
+  wide-reads.Learnt,
+  term-kind-of-reads.Asked,
+  term-kind-of-reads.Learnt,
+  variable-reads.Asked,
+  variable-reads.Learnt,
+  is-range-reads.Asked,
+  is-range-reads.Learnt,
+  read-terms-below t,
+  read-terms.Post,
+)
 
 abbrev read-terms-calls : ℕ → read-terms-lts.Claims
-read-terms-calls t = (wide-reads.Asked, wide-reads.Learnt, result-reads.Asked, result-reads.Learnt, read-term-below t, read-term.Post, read-terms-below t, read-terms.Post, variable-reads.Asked, variable-reads.Learnt, and-reads.Asked, and-reads.Learnt)
+read-terms-calls t = (
+  wide-reads.Asked,
+  wide-reads.Learnt,
+  result-reads.Asked,
+  result-reads.Learnt,
+  read-term-below t,
+  read-term.Post,
+  read-terms-below t,
+  read-terms.Post,
+  variable-reads.Asked,
+  variable-reads.Learnt,
+  and-reads.Asked,
+  and-reads.Learnt,
+)
 
 -- a signature has place for all its ranges
 all-seen : (t : ℕ) (c : read-terms-lts.Start (read-terms-calls t) (read-terms-at t) read-terms.Post) → length (seen (c .args .signature)) ≡ c .args .signature .count
 all-seen t c =
     let g : length (c .args .signature .values) ≡ 8 = search needs in
     length-take-le (c .args .signature .count) (c .args .signature .values) (omega (arith, g))
-
-read-term-term-result-requires : (t : ℕ) → read-term-lts.Need-term-result-requires (read-term-calls t) (read-term-at t) read-term.Post
-read-term-term-result-requires t c κs = search needs
 
 read-term-returns : (t : ℕ) → read-term-lts.Need-returns (read-term-calls t) (read-term-at t) read-term.Post
 read-term-returns t c =
@@ -79,91 +107,38 @@ read-term-returns t c =
     let r = c .term-result .ensures in
     rw (r .0, r .1 .0, r .1 .1) (record { on = omega arith; tells = λ n l. told-no-term s (a .scope .count) (a .at) (seen (a .scope)) _ _ n (rw z no-term-kind) })
 
-read-term-byte-requires : (t : ℕ) → read-term-lts.Need-byte-requires (read-term-calls t) (read-term-at t) read-term.Post
-read-term-byte-requires t c κs = search needs
-
-read-term-add-byte : (t : ℕ) → read-term-lts.Need-add-byte (read-term-calls t) (read-term-at t) read-term.Post
-read-term-add-byte t c = search needs
-
-read-term-byte-requires-2 : (t : ℕ) → read-term-lts.Need-byte-requires-2 (read-term-calls t) (read-term-at t) read-term.Post
-read-term-byte-requires-2 t c κs = search needs
-
-read-term-operands-of-requires : (t : ℕ) → read-term-lts.Need-operands-of-requires (read-term-calls t) (read-term-at t) read-term.Post
-read-term-operands-of-requires t c κs = search needs
-
-read-term-wide-requires : (t : ℕ) → read-term-lts.Need-wide-requires (read-term-calls t) (read-term-at t) read-term.Post
-read-term-wide-requires t c κs = search needs
-
-read-term-add-after : (t : ℕ) → read-term-lts.Need-add-after (read-term-calls t) (read-term-at t) read-term.Post
-read-term-add-after t c = search needs
-
-read-term-add-next : (t : ℕ) → read-term-lts.Need-add-next (read-term-calls t) (read-term-at t) read-term.Post
-read-term-add-next t c = search needs
-
-read-term-term-kind-of-requires : (t : ℕ) → read-term-lts.Need-term-kind-of-requires (read-term-calls t) (read-term-at t) read-term.Post
-read-term-term-kind-of-requires t c κs = search needs
-
-read-term-enum-told : (t : ℕ) → read-term-lts.Need-enum-told (read-term-calls t) (read-term-at t) read-term.Post
-read-term-enum-told t c = search needs
-
-read-term-term-result-requires-2 : (t : ℕ) → read-term-lts.Need-term-result-requires-2 (read-term-calls t) (read-term-at t) read-term.Post
-read-term-term-result-requires-2 t c κs = search needs
-
-read-term-enum-told-2 : (t : ℕ) → read-term-lts.Need-enum-told-2 (read-term-calls t) (read-term-at t) read-term.Post
-read-term-enum-told-2 t c = search needs
-
-read-term-term-result-requires-3 : (t : ℕ) → read-term-lts.Need-term-result-requires-3 (read-term-calls t) (read-term-at t) read-term.Post
-read-term-term-result-requires-3 t c κs = search needs
-
 read-term-returns-2 : (t : ℕ) → read-term-lts.Need-returns-2 (read-term-calls t) (read-term-at t) read-term.Post
 read-term-returns-2 t c =
     let a = c .before .before .before .before .before .before .before .before .before .before .before .before .args in
     let s = bytes-at (a .text .now) (a .body .place) (a .body .size) in
-    let i : a .at < length s = omega (arith, length-bytes (a .text .now) (a .body .place) (a .body .size), c .before .before .before .before .before .before .before .before .before .if1 .left) in
-    let k = ap term-kind-of (sym (c .before .before .before .before .before .before .before .before .byte .ensures)) ∙ sym (c .before .before .before .before .term-kind-of .ensures) ∙ c .before .before .enum-told2 .given .1 in
+    let i : a .at < length s = omega (
+      arith,
+      length-bytes (a .text .now) (a .body .place)
+          (a .body .size),
+      c .before .before .before .before .before .before .before .before .before .if1 .left,
+    ) in
+    let k = of-byte term-kind-of (c .before .before .before .before .before .before .before .before .byte .ensures) (c .before .before .before .before .term-kind-of .ensures)
+    (c .before .before .enum-told2 .given .1) in
     let x = rw (c .before .before .before .before .before .before .before .byte2 .ensures) at (c .before .if2 .taken) in
     let r = c .term-result3 .ensures in
     rw (r .0, r .1 .0, r .1 .1) (record { on = omega arith; tells = λ n l. told-number-no s (a .scope .count) (a .at) (seen (a .scope)) _ _ n l i k x })
-
-read-term-add-term-result : (t : ℕ) → read-term-lts.Need-add-term-result (read-term-calls t) (read-term-at t) read-term.Post
-read-term-add-term-result t c = search needs
-
-read-term-term-result-requires-4 : (t : ℕ) → read-term-lts.Need-term-result-requires-4 (read-term-calls t) (read-term-at t) read-term.Post
-read-term-term-result-requires-4 t c κs = search needs
-
-read-term-enum-told-3 : (t : ℕ) → read-term-lts.Need-enum-told-3 (read-term-calls t) (read-term-at t) read-term.Post
-read-term-enum-told-3 t c = search needs
-
-read-term-wide-requires-2 : (t : ℕ) → read-term-lts.Need-wide-requires-2 (read-term-calls t) (read-term-at t) read-term.Post
-read-term-wide-requires-2 t c κs = search needs
-
-read-term-variable-requires : (t : ℕ) → read-term-lts.Need-variable-requires (read-term-calls t) (read-term-at t) read-term.Post
-read-term-variable-requires t c κs = search needs
-
-read-term-term-result-requires-5 : (t : ℕ) → read-term-lts.Need-term-result-requires-5 (read-term-calls t) (read-term-at t) read-term.Post
-read-term-term-result-requires-5 t c κs = search needs
-
-read-term-enum-told-4 : (t : ℕ) → read-term-lts.Need-enum-told-4 (read-term-calls t) (read-term-at t) read-term.Post
-read-term-enum-told-4 t c = search needs
-
-read-term-is-range-requires : (t : ℕ) → read-term-lts.Need-is-range-requires (read-term-calls t) (read-term-at t) read-term.Post
-read-term-is-range-requires t c κs = search needs
-
-read-term-term-result-requires-6 : (t : ℕ) → read-term-lts.Need-term-result-requires-6 (read-term-calls t) (read-term-at t) read-term.Post
-read-term-term-result-requires-6 t c κs = search needs
 
 read-term-returns-3 : (t : ℕ) → read-term-lts.Need-returns-3 (read-term-calls t) (read-term-at t) read-term.Post
 read-term-returns-3 t c =
     let a = c .before .before .before .before .before .before .before .before .before .before .before .before .before .args in
     let s = bytes-at (a .text .now) (a .body .place) (a .body .size) in
-    let i : a .at < length s = omega (arith, length-bytes (a .text .now) (a .body .place) (a .body .size), c .before .before .before .before .before .before .before .before .before .before .if1 .left) in
-    let k = ap term-kind-of (sym (c .before .before .before .before .before .before .before .before .before .byte .ensures)) ∙ sym (c .before .before .before .before .before .term-kind-of .ensures) ∙ c .before .before .before .enum-told4 .given .1 in
-    let h = ap is-range (sym (c .before .before .before .before .before .before .before .before .byte2 .ensures)) ∙ sym (c .before .before .is-range .ensures) ∙ not-true _ (c .before .if3 .taken) in
+    let i : a .at < length s = omega (
+      arith,
+      length-bytes (a .text .now) (a .body .place)
+          (a .body .size),
+      c .before .before .before .before .before .before .before .before .before .before .if1 .left,
+    ) in
+    let k = of-byte term-kind-of (c .before .before .before .before .before .before .before .before .before .byte .ensures) (c .before .before .before .before .before .term-kind-of .ensures)
+    (c .before .before .before .enum-told4 .given .1) in
+    let h = of-byte is-range (c .before .before .before .before .before .before .before .before .byte2 .ensures) (c .before .before .is-range .ensures)
+    (not-true _ (c .before .if3 .taken)) in
     let r = c .term-result6 .ensures in
     rw (r .0, r .1 .0, r .1 .1) (record { on = omega arith; tells = λ n l. told-calculation-no s (a .scope .count) (a .at) (seen (a .scope)) _ _ n l i _ k h })
-
-read-term-add-read-terms : (t : ℕ) → read-term-lts.Need-add-read-terms (read-term-calls t) (read-term-at t) read-term.Post
-read-term-add-read-terms t c = search needs
 
 read-term-sub-read-terms : (t : ℕ) → read-term-lts.Need-sub-read-terms (read-term-calls t) (read-term-at t) read-term.Post
 read-term-sub-read-terms t c =
@@ -175,14 +150,12 @@ read-term-read-terms-requires t c κs =
     let k = sym (c .before .before .before .before .term-kind-of .ensures) ∙ c .before .before .enum-told4 .given .1 in
     omega (arith, c .before .before .before .before .before .before .operands-of .ensures ∙ operands-calculation _ _ k)
 
-read-term-term-result-requires-7 : (t : ℕ) → read-term-lts.Need-term-result-requires-7 (read-term-calls t) (read-term-at t) read-term.Post
-read-term-term-result-requires-7 t c κs = search needs
-
 read-term-returns-4 : (t : ℕ) → read-term-lts.Need-returns-4 (read-term-calls t) (read-term-at t) read-term.Post
 read-term-returns-4 t c =
     let a = c .before .before .before .before .before .before .before .before .before .before .before .args in
     let s = bytes-at (a .text .now) (a .body .place) (a .body .size) in
-    let k = ap term-kind-of (sym (c .before .before .before .before .before .before .before .byte .ensures)) ∙ sym (c .before .before .before .term-kind-of .ensures) ∙ c .before .enum-told .given .1 in
+    let k = of-byte term-kind-of (c .before .before .before .before .before .before .before .byte .ensures) (c .before .before .before .term-kind-of .ensures)
+    (c .before .enum-told .given .1) in
     let r = c .term-result2 .ensures in
     rw (r .0, r .1 .0, r .1 .1) (record { on = omega arith; tells = λ n l. told-no-term s (a .scope .count) (a .at) (seen (a .scope)) _ _ n k })
 
@@ -190,44 +163,71 @@ read-term-returns-5 : (t : ℕ) → read-term-lts.Need-returns-5 (read-term-call
 read-term-returns-5 t c =
     let a = c .before .before .before .before .before .before .before .before .before .before .before .before .args in
     let s = bytes-at (a .text .now) (a .body .place) (a .body .size) in
-    let i : a .at < length s = omega (arith, length-bytes (a .text .now) (a .body .place) (a .body .size), c .before .before .before .before .before .before .before .before .before .if1 .left) in
-    let k = ap term-kind-of (sym (c .before .before .before .before .before .before .before .before .byte .ensures)) ∙ sym (c .before .before .before .before .term-kind-of .ensures) ∙ c .before .before .enum-told2 .given .1 in
+    let i : a .at < length s = omega (
+      arith,
+      length-bytes (a .text .now) (a .body .place)
+          (a .body .size),
+      c .before .before .before .before .before .before .before .before .before .if1 .left,
+    ) in
+    let k = of-byte term-kind-of (c .before .before .before .before .before .before .before .before .byte .ensures) (c .before .before .before .before .term-kind-of .ensures)
+    (c .before .before .enum-told2 .given .1) in
     let o = c .before .before .before .before .before .before .operands-of .ensures ∙ ap operands-of (c .before .before .before .before .before .before .before .before .byte .ensures) in
     let e = ap (λ (x : ℕ). a .at + (1 + x)) (c .before .before .before .before .before .wide .ensures .0 ∙ o) in
     let x = rw (c .before .before .before .before .before .before .before .byte2 .ensures) at (c .before .if2 .left) in
     let r = c .term-result4 .ensures in
-    rw (r .0, r .1 .0, r .1 .1) (record { on = omega arith; tells = λ n l. told-number s (a .scope .count) (a .at) (seen (a .scope)) _ _ n l i k x (rw (c .before .before .before .before .before .before .before .byte2 .ensures) refl) e })
+    rw (r .0, r .1 .0, r .1 .1) (record {
+      on = omega arith;
+      tells = λ n l. told-number s (a .scope .count) (a .at) (seen (a .scope)) _ _ n l i k x
+          (rw (c .before .before .before .before .before .before .before .byte2 .ensures) refl) e;
+    })
 
 read-term-returns-6 : (t : ℕ) → read-term-lts.Need-returns-6 (read-term-calls t) (read-term-at t) read-term.Post
 read-term-returns-6 t c =
     let a = c .before .before .before .before .before .before .before .before .before .before .before .before .before .before .args in
     let s = bytes-at (a .text .now) (a .body .place) (a .body .size) in
-    let i : a .at < length s = omega (arith, length-bytes (a .text .now) (a .body .place) (a .body .size), c .before .before .before .before .before .before .before .before .before .before .before .if1 .left) in
-    let k = ap term-kind-of (sym (c .before .before .before .before .before .before .before .before .before .before .byte .ensures)) ∙ sym (c .before .before .before .before .before .before .term-kind-of .ensures) ∙ c .before .before .before .before .enum-told3 .given .1 in
-    let o = c .before .before .before .before .before .before .before .before .operands-of .ensures ∙ ap operands-of (c .before .before .before .before .before .before .before .before .before .before .byte .ensures) in
+    let i : a .at < length s = omega (
+      arith,
+      length-bytes (a .text .now) (a .body .place)
+          (a .body .size),
+      c .before .before .before .before .before .before .before .before .before .before .before .if1 .left,
+    ) in
+    let k = of-byte term-kind-of (c .before .before .before .before .before .before .before .before .before .before .byte .ensures)
+    (c .before .before .before .before .before .before .term-kind-of .ensures) (c .before .before .before .before .enum-told3 .given .1) in
+    let o = c .before .before .before .before .before .before .before .before .operands-of .ensures ∙ ap operands-of
+    (c .before .before .before .before .before .before .before .before .before .before .byte .ensures) in
     let e = ap (λ (x : ℕ). a .at + (1 + x)) (c .before .before .before .before .before .before .before .wide .ensures .0 ∙ o) in
     let x = c .before .before .before .wide2 .ensures .0 in
     let v = c .before .variable .ensures ∙ ap (λ (x : ℕ). getD (seen (a .scope)) x 0) (sym x) in
     let r = c .term-result5 .ensures in
-    rw (r .0, r .1 .0, r .1 .1) (record { on = omega arith; tells = λ n l. told-variable s (a .scope .count) (a .at) (seen (a .scope)) _ _ n l i k (x ∙ c .before .before .before .before .before .before .before .before .before .byte2 .ensures) v e })
+    rw (r .0, r .1 .0, r .1 .1) (record {
+      on = omega arith;
+      tells = λ n l. told-variable s (a .scope .count) (a .at) (seen (a .scope)) _ _ n l i k
+          (x ∙ c .before .before .before .before .before .before .before .before .before .byte2 .ensures) v e;
+    })
 
 read-term-returns-7 : (t : ℕ) → read-term-lts.Need-returns-7 (read-term-calls t) (read-term-at t) read-term.Post
 read-term-returns-7 t c =
     let a = c .before .before .before .before .before .before .before .before .before .before .before .before .before .before .args in
     let s = bytes-at (a .text .now) (a .body .place) (a .body .size) in
-    let i : a .at < length s = omega (arith, length-bytes (a .text .now) (a .body .place) (a .body .size), c .before .before .before .before .before .before .before .before .before .before .before .if1 .left) in
-    let k = ap term-kind-of (sym (c .before .before .before .before .before .before .before .before .before .before .byte .ensures)) ∙ sym (c .before .before .before .before .before .before .term-kind-of .ensures) ∙ c .before .before .before .before .enum-told4 .given .1 in
-    let o = c .before .before .before .before .before .before .before .before .operands-of .ensures ∙ ap operands-of (c .before .before .before .before .before .before .before .before .before .before .byte .ensures) in
-    let h = ap is-range (sym (c .before .before .before .before .before .before .before .before .before .byte2 .ensures)) ∙ sym (c .before .before .before .is-range .ensures) ∙ not-false _ (c .before .before .if3 .left) in
+    let i : a .at < length s = omega (
+      arith,
+      length-bytes (a .text .now) (a .body .place)
+          (a .body .size),
+      c .before .before .before .before .before .before .before .before .before .before .before .if1 .left,
+    ) in
+    let k = of-byte term-kind-of (c .before .before .before .before .before .before .before .before .before .before .byte .ensures)
+    (c .before .before .before .before .before .before .term-kind-of .ensures) (c .before .before .before .before .enum-told4 .given .1) in
+    let o = c .before .before .before .before .before .before .before .before .operands-of .ensures ∙ ap operands-of
+    (c .before .before .before .before .before .before .before .before .before .before .byte .ensures) in
+    let h = of-byte is-range (c .before .before .before .before .before .before .before .before .before .byte2 .ensures) (c .before .before .before .is-range .ensures)
+    (not-false _ (c .before .before .if3 .left)) in
     let p = c .before .read-terms .ensures in
     let r = c .term-result7 .ensures in
-    rw (r .0, r .1 .0, r .1 .1) (record { on = omega (arith, p .on); tells = λ n l. told-calculation s (a .scope .count) (a .at) (seen (a .scope)) _ _ n l i _ k h (λ m f. rw o at (p .tells m f)) (c .before .before .before .before .before .before .before .before .before .byte2 .ensures) })
-
-read-terms-wide-requires : (t : ℕ) → read-terms-lts.Need-wide-requires (read-terms-calls t) (read-terms-at t) read-terms.Post
-read-terms-wide-requires t c κs = search needs
-
-read-terms-result-requires : (t : ℕ) → read-terms-lts.Need-result-requires (read-terms-calls t) (read-terms-at t) read-terms.Post
-read-terms-result-requires t c κs = search needs
+    rw (r .0, r .1 .0, r .1 .1) (record {
+      on = omega (arith, p .on);
+      tells = λ n l. told-calculation s (a .scope .count) (a .at) (seen (a .scope)) _ _ n l i _ k h
+          (λ m f. rw o at (p .tells m f)) (c .before .before .before .before .before .before .before .before .before .byte2 .ensures);
+    })
 
 read-terms-returns : (t : ℕ) → read-terms-lts.Need-returns (read-terms-calls t) (read-terms-at t) read-terms.Post
 read-terms-returns t c =
@@ -235,13 +235,11 @@ read-terms-returns t c =
     let s = bytes-at (a .text .now) (a .body .place) (a .body .size) in
     let w = all-seen t (c .before .before .before .before .before) in
     let r = c .result .ensures in
-    rw (r .0, r .1 .0, r .1 .1) (record { on = omega arith; tells = λ n l. told-none-left n s (a .scope .count) (a .at) (seen (a .scope)) (seen (a .signature)) (a .j) (a .c) (c .before .before .if1 .taken) (rw (w, c .before .before .before .wide .ensures .0) refl) refl })
-
-read-terms-read-term-requires : (t : ℕ) → read-terms-lts.Need-read-term-requires (read-terms-calls t) (read-terms-at t) read-terms.Post
-read-terms-read-term-requires t c κs = omega arith
-
-read-terms-result-requires-2 : (t : ℕ) → read-terms-lts.Need-result-requires-2 (read-terms-calls t) (read-terms-at t) read-terms.Post
-read-terms-result-requires-2 t c κs = search needs
+    rw (r .0, r .1 .0, r .1 .1) (record {
+      on = omega arith;
+      tells = λ n l. told-none-left n s (a .scope .count) (a .at) (seen (a .scope)) (seen (a .signature)) (a .j) (a .c)
+          (c .before .before .if1 .taken) (rw (w, c .before .before .before .wide .ensures .0) refl) refl;
+    })
 
 read-terms-returns-2 : (t : ℕ) → read-terms-lts.Need-returns-2 (read-terms-calls t) (read-terms-at t) read-terms.Post
 read-terms-returns-2 t c =
@@ -251,28 +249,14 @@ read-terms-returns-2 t c =
     let y = not-true (c .before .before .before .read-term .result .ok) (c .before .if2 .taken) in
     let z : a .c ≡ suc (a .c - 1) = omega (arith, c .before .before .before .before .if1 .left) in
     let r = c .result2 .ensures in
-    rw (r .0, r .1 .0, r .1 .1) (record { on = omega (arith, p .on); tells = λ n l. told-more-stop n s (a .scope .count) (a .at) (seen (a .scope)) (seen (a .signature)) (a .j) (a .c) (a .c - 1) z (rw y at (p .tells n l)) })
-
-read-terms-sub-read-terms : (t : ℕ) → read-terms-lts.Need-sub-read-terms (read-terms-calls t) (read-terms-at t) read-terms.Post
-read-terms-sub-read-terms t c = omega arith
-
-read-terms-add-read-terms : (t : ℕ) → read-terms-lts.Need-add-read-terms (read-terms-calls t) (read-terms-at t) read-terms.Post
-read-terms-add-read-terms t c = omega arith
+    rw (r .0, r .1 .0, r .1 .1) (record {
+      on = omega (arith, p .on);
+      tells = λ n l. told-more-stop n s (a .scope .count) (a .at) (seen (a .scope)) (seen (a .signature)) (a .j) (a .c)
+          (a .c - 1) z (rw y at (p .tells n l));
+    })
 
 read-terms-read-terms-requires : (t : ℕ) → read-terms-lts.Need-read-terms-requires (read-terms-calls t) (read-terms-at t) read-terms.Post
 read-terms-read-terms-requires t c κs = omega (arith, c .before .before .read-term .ensures .on)
-
-read-terms-variable-requires : (t : ℕ) → read-terms-lts.Need-variable-requires (read-terms-calls t) (read-terms-at t) read-terms.Post
-read-terms-variable-requires t c κs = search needs
-
-read-terms-and-requires : (t : ℕ) → read-terms-lts.Need-and-requires (read-terms-calls t) (read-terms-at t) read-terms.Post
-read-terms-and-requires t c κs = search needs
-
-read-terms-and-requires-2 : (t : ℕ) → read-terms-lts.Need-and-requires-2 (read-terms-calls t) (read-terms-at t) read-terms.Post
-read-terms-and-requires-2 t c κs = search needs
-
-read-terms-result-requires-3 : (t : ℕ) → read-terms-lts.Need-result-requires-3 (read-terms-calls t) (read-terms-at t) read-terms.Post
-read-terms-result-requires-3 t c κs = search needs
 
 read-terms-returns-3 : (t : ℕ) → read-terms-lts.Need-returns-3 (read-terms-calls t) (read-terms-at t) read-terms.Post
 read-terms-returns-3 t c =
@@ -281,19 +265,28 @@ read-terms-returns-3 t c =
     let w = all-seen t (c .before .before .before .before .before .before .before .before .before .before .before .before .before) in
     let p = c .before .before .before .before .before .before .before .before .before .read-term .ensures in
     let v = c .before .before .before .before .before .before .read-terms .ensures in
-    let y = not-false (c .before .before .before .before .before .before .before .before .before .read-term .result .ok) (c .before .before .before .before .before .before .before .if2 .left) in
+    let y = not-false (c .before .before .before .before .before .before .before .before .before .read-term .result .ok)
+    (c .before .before .before .before .before .before .before .if2 .left) in
     let z : a .c ≡ suc (a .c - 1) = omega (arith, c .before .before .before .before .before .before .before .before .before .before .if1 .left) in
     let r = c .result3 .ensures in
     rw (r .0, r .1 .0, r .1 .1) (record {
       on = omega (arith, p .on, v .on);
       tells = λ n l. told-more n s (a .scope .count) (a .at) (seen (a .scope)) (seen (a .signature)) (a .j) (a .c) (a .c - 1) z (rw y at (p .tells n l)) (v .tells n (omega (arith, p .on)))
-          (c .before .and2 .ensures ∙ rw (c .before .before .before .and .ensures, c .before .before .before .before .before .variable .ensures, c .before .before .before .before .before .before .before .before .before .before .before .wide .ensures .0, w) refl);
+          (c .before .and2 .ensures ∙ rw
+          (c .before .before .before .and .ensures, c .before .before .before .before .before .variable .ensures, c .before .before .before .before .before .before .before .before .before .before .before .wide .ensures .0, w) refl);
     })
 
 pub +read-term+read-terms-spec : {M : Type 1} → statement M
 +read-term+read-terms-spec =
     close μ-read-term μ-read-terms
     (λ t. read-term-lts.spec (read-term-calls t) (read-term-at t) read-term.Post
-    (read-term-term-result-requires t) (read-term-returns t) (read-term-byte-requires t) (read-term-add-byte t) (read-term-byte-requires-2 t) (read-term-operands-of-requires t) (read-term-wide-requires t) (read-term-add-after t) (read-term-add-next t) (read-term-term-kind-of-requires t) (read-term-enum-told t) (read-term-term-result-requires-2 t) (read-term-enum-told-2 t) (read-term-term-result-requires-3 t) (read-term-returns-2 t) (read-term-add-term-result t) (read-term-term-result-requires-4 t) (read-term-enum-told-3 t) (read-term-wide-requires-2 t) (read-term-variable-requires t) (read-term-term-result-requires-5 t) (read-term-enum-told-4 t) (read-term-is-range-requires t) (read-term-term-result-requires-6 t) (read-term-returns-3 t) (read-term-add-read-terms t) (read-term-sub-read-terms t) (read-term-read-terms-requires t) (read-term-term-result-requires-7 t) (read-term-returns-4 t) (read-term-returns-5 t) (read-term-returns-6 t) (read-term-returns-7 t))
+    (λ c κs. search needs) (read-term-returns t) (λ c κs. search needs) (λ c. search needs) (λ c κs. search needs) (λ c κs. search needs)
+    (λ c κs. search needs) (λ c. search needs) (λ c. search needs) (λ c κs. search needs) (λ c. search needs) (λ c κs. search needs)
+    (λ c. search needs) (λ c κs. search needs) (read-term-returns-2 t) (λ c. search needs) (λ c κs. search needs) (λ c. search needs)
+    (λ c κs. search needs) (λ c κs. search needs) (λ c κs. search needs) (λ c. search needs) (λ c κs. search needs) (λ c κs. search needs)
+    (read-term-returns-3 t) (λ c. search needs) (read-term-sub-read-terms t) (read-term-read-terms-requires t) (λ c κs. search needs)
+    (read-term-returns-4 t) (read-term-returns-5 t) (read-term-returns-6 t) (read-term-returns-7 t))
     (λ t. read-terms-lts.spec (read-terms-calls t) (read-terms-at t) read-terms.Post
-    (read-terms-wide-requires t) (read-terms-result-requires t) (read-terms-returns t) (read-terms-read-term-requires t) (read-terms-result-requires-2 t) (read-terms-returns-2 t) (read-terms-sub-read-terms t) (read-terms-add-read-terms t) (read-terms-read-terms-requires t) (read-terms-variable-requires t) (read-terms-and-requires t) (read-terms-and-requires-2 t) (read-terms-result-requires-3 t) (read-terms-returns-3 t))
+    (λ c κs. search needs) (λ c κs. search needs) (read-terms-returns t) (λ c κs. omega arith) (λ c κs. search needs) (read-terms-returns-2 t)
+    (λ c. omega arith) (λ c. omega arith) (read-terms-read-terms-requires t) (λ c κs. search needs) (λ c κs. search needs) (λ c κs. search needs)
+    (λ c κs. search needs) (read-terms-returns-3 t))

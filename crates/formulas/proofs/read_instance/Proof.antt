@@ -40,7 +40,8 @@ returns c =
     rw (r .0, r .1 .0, r .1 .1) (record {
       on = omega arith;
       tells = λ n l.
-          told-instance-no (a .equations) (a .count) (omega (arith, g, c .before .before .before .before .before .before .pre .1 .1 .1 .1)) n s (a .scope .count) (a .at) (a .first) (seen (a .scope)) h;
+          told-instance-no (a .equations) (a .count) (omega (arith, g, c .before .before .before .before .before .before .pre .1 .1 .1 .1)) n s (a .scope .count) (a .at) (a .first)
+          (seen (a .scope)) h;
     })
 
 nth-requires : tie.Need-nth-requires
@@ -71,8 +72,11 @@ returns-2 c =
       on = omega (arith, p .on, pre .1 .1 .0);
       tells = λ n l.
           told-instance-arguments (a .equations) (a .count) (omega (arith, g, pre .1 .1 .1 .1)) n s (a .scope .count) (a .at) (a .first) (seen (a .scope))
-          (seen (c .before .before .before .signature-of .result)) (c .before .before .before .before .before .before .before .wide .ensures .0 ∙ c .before .before .before .before .before .before .before .before .byte .ensures) (c .before .before .before .before .before .before .byte2 .ensures) (c .before .before .before .before .before .if1 .left)
-          (λ h. c .before .before .before .signature-of .ensures .0 ∙ ap ranges-of (c .before .before .before .before .nth .ensures (omega (arith, h, pre .1 .1 .1 .1)))) (p .tells n l) (c .before .and .ensures);
+          (seen (c .before .before .before .signature-of .result))
+          (c .before .before .before .before .before .before .before .wide .ensures .0 ∙ c .before .before .before .before .before .before .before .before .byte .ensures)
+          (c .before .before .before .before .before .before .byte2 .ensures) (c .before .before .before .before .before .if1 .left)
+          (λ h. c .before .before .before .signature-of .ensures .0 ∙ ap ranges-of (c .before .before .before .before .nth .ensures (omega (arith, h, pre .1 .1 .1 .1)))) (p .tells n l)
+          (c .before .and .ensures);
     })
 
 pub read-instance-spec : {M : Type 1} → statement M

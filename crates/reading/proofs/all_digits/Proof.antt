@@ -28,7 +28,8 @@ worth-requires c κs = search needs
 returns : tie.Need-returns Inv-loop μ-loop
 returns c =
     let a = c .before .before .before .before .before .before .args in
-    sym (c .before .before .before .before .loop .inv .1 ∙ digits-no (a .text .now) (c .before .before .before .before .loop .i) (a .end) _ (c .before .before .before .loop-test .taken) (c .before .before .before .before .before .before .pre .1) (c .before .worth .ensures) (c .if1 .taken))
+    sym (c .before .before .before .before .loop .inv .1 ∙ digits-no (a .text .now) (c .before .before .before .before .loop .i) (a .end) _ (c .before .before .before .loop-test .taken)
+    (c .before .before .before .before .before .before .pre .1) (c .before .worth .ensures) (c .if1 .taken))
 
 add-i : tie.Need-add-i Inv-loop μ-loop
 add-i c = omega arith
@@ -38,8 +39,11 @@ loop-less c = omega arith
 
 loop-again : tie.Need-loop-again Inv-loop μ-loop
 loop-again c =
-    let a = c .before .before .before .before .before .before .args in
-    (omega arith, c .before .before .before .before .loop .inv .1 ∙ digits-yes (a .text .now) (c .before .before .before .before .loop .i) (a .end) _ (c .before .before .before .loop-test .taken) (c .before .before .before .before .before .before .pre .1) (c .before .worth .ensures) (c .if1 .left))
+    let a = c .before .before .before .before .before .before .args in (
+      omega arith,
+      c .before .before .before .before .loop .inv .1 ∙ digits-yes (a .text .now) (c .before .before .before .before .loop .i) (a .end) _
+          (c .before .before .before .loop-test .taken) (c .before .before .before .before .before .before .pre .1) (c .before .worth .ensures) (c .if1 .left),
+    )
 
 returns-2 : tie.Need-returns-2 Inv-loop μ-loop
 returns-2 c =

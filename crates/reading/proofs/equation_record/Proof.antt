@@ -44,7 +44,18 @@ returns : tie.Need-returns
 unfolding equation-record
 returns c =
     let a = c .before .before .before .before .before .before .before .before .before .args in
-    rw (length-bytes (a .text .now) (a .place) (a .size), c .difference .ensures, c .before .wide .ensures .0, c .before .before .range-of4 .ensures, c .before .before .before .range-of3 .ensures, c .before .before .before .before .range-of2 .ensures, c .before .before .before .before .before .range-of .ensures, c .before .before .before .before .before .before .byte2 .ensures, c .before .before .before .before .before .before .before .byte .ensures) refl
+    rw (
+      length-bytes (a .text .now) (a .place)
+          (a .size),
+      c .difference .ensures,
+      c .before .wide .ensures .0,
+      c .before .before .range-of4 .ensures,
+      c .before .before .before .range-of3 .ensures,
+      c .before .before .before .before .range-of2 .ensures,
+      c .before .before .before .before .before .range-of .ensures,
+      c .before .before .before .before .before .before .byte2 .ensures,
+      c .before .before .before .before .before .before .before .byte .ensures,
+    ) refl
 
 pub equation-record-spec : {M : Type 1} → statement M
 equation-record-spec =

@@ -26,7 +26,8 @@ and-requires-3 c κs = search needs
 
 returns : tie.Need-returns
 unfolding head-right
-returns c = rw (c .and3 .ensures, c .before .and2 .ensures, c .before .before .and .ensures, c .before .before .before .before .before .ranges-right .ensures, c .before .before .before .before .before .before .before .wide .ensures .0) refl
+returns c = rw
+    (c .and3 .ensures, c .before .and2 .ensures, c .before .before .and .ensures, c .before .before .before .before .before .ranges-right .ensures, c .before .before .before .before .before .before .before .wide .ensures .0) refl
 
 pub head-right-spec : {M : Type 1} → statement M
 head-right-spec =

@@ -20,7 +20,8 @@ and-requires-3 c κs = search needs
 returns : tie.Need-returns
 returns c =
     let a = c .before .before .before .before .args in
-    shape (a .text .now) (a .at) (a .end) (c .before .before .before .before .pre .0) (c .before .before .before .before .pre .1) (c .before .before .and .ensures) (c .before .and2 .ensures) (c .and3 .ensures)
+    shape (a .text .now) (a .at) (a .end) (c .before .before .before .before .pre .0) (c .before .before .before .before .pre .1) (c .before .before .and .ensures) (c .before .and2 .ensures)
+    (c .and3 .ensures)
 
 pub is-shaped-spec : {M : Type 1} → statement M
 is-shaped-spec = tie.close (tie.spec sub-size and-requires and-requires-2 and-requires-3 returns)

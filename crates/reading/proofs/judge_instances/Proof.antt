@@ -42,7 +42,9 @@ refuse-requires c κs = search needs
 returns : tie.Need-returns Inv-loop μ-loop
 returns c =
     let a = c .before .before .before .before .before .before .before .before .args in
-    c .refuse .ensures ∙ sym (c .before .before .before .before .before .before .loop .inv .1 ∙ instances-wrong (a .text .now) (a .t2) (c .before .before .before .before .before .before .loop .j) (c .before .before .before .before .before .loop-test .taken) (c .before .before .before .instances-right .ensures) (not-true _ (c .before .before .if1 .taken)))
+    c .refuse .ensures ∙ sym (c .before .before .before .before .before .before .loop .inv .1 ∙ instances-wrong (a .text .now) (a .t2)
+    (c .before .before .before .before .before .before .loop .j) (c .before .before .before .before .before .loop-test .taken) (c .before .before .before .instances-right .ensures)
+    (not-true _ (c .before .before .if1 .taken)))
 
 add-j : tie.Need-add-j Inv-loop μ-loop
 add-j c = omega arith
@@ -52,8 +54,11 @@ loop-less c = omega arith
 
 loop-again : tie.Need-loop-again Inv-loop μ-loop
 loop-again c =
-    let a = c .before .before .before .before .before .before .args in
-    (omega arith, c .before .before .before .before .loop .inv .1 ∙ instances-more (a .text .now) (a .t2) (c .before .before .before .before .loop .j) (c .before .before .before .loop-test .taken) (c .before .instances-right .ensures) (not-false _ (c .if1 .left)))
+    let a = c .before .before .before .before .before .before .args in (
+      omega arith,
+      c .before .before .before .before .loop .inv .1 ∙ instances-more (a .text .now) (a .t2) (c .before .before .before .before .loop .j)
+          (c .before .before .before .loop-test .taken) (c .before .instances-right .ensures) (not-false _ (c .if1 .left)),
+    )
 
 judge-start-requires : tie.Need-judge-start-requires Inv-loop μ-loop
 judge-start-requires c κs = search needs

@@ -22,7 +22,8 @@ byte-requires-2 c κs = search needs
 returns : tie.Need-returns
 returns c =
     let a = c .before .before .before .before .before .args in
-    c .byte2 .ensures ∙ range-given (bytes-at (a .text .now) (a .place) (a .size)) (a .i) (c .before .before .wide .ensures .0 ∙ c .before .before .before .byte .ensures) (c .before .if1 .taken)
+    c .byte2 .ensures ∙ range-given (bytes-at (a .text .now) (a .place) (a .size)) (a .i) (c .before .before .wide .ensures .0 ∙ c .before .before .before .byte .ensures)
+    (c .before .if1 .taken)
 
 returns-2 : tie.Need-returns-2
 returns-2 c =

@@ -36,7 +36,8 @@ refuse-requires-3 c κs = search needs
 returns-3 : tie.Need-returns-3
 returns-3 c =
     let a = c .before .before .before .before .before .before .before .before .args in
-    c .refuse3 .ensures ∙ head-wrong (a .text .now) (a .m) (a .line) (a .place) (a .size) (c .before .before .before .before .before .before .if1 .left) (c .before .before .before .before .if2 .left)
+    c .refuse3 .ensures ∙ head-wrong (a .text .now) (a .m) (a .line) (a .place) (a .size) (c .before .before .before .before .before .before .if1 .left)
+    (c .before .before .before .before .if2 .left)
     _ (c .before .before .before .equation-record .ensures) _ (c .before .before .head-right .ensures) (not-true _ (c .before .if3 .taken))
 
 is-body-requires : tie.Need-is-body-requires
@@ -48,8 +49,10 @@ refuse-requires-4 c κs = search needs
 returns-4 : tie.Need-returns-4
 returns-4 c =
     let a = c .before .before .before .before .before .before .before .before .before .before .args in
-    c .refuse4 .ensures ∙ body-wrong (a .text .now) (a .m) (a .line) (a .place) (a .size) (c .before .before .before .before .before .before .before .before .if1 .left) (c .before .before .before .before .before .before .if2 .left)
-    _ (c .before .before .before .before .before .equation-record .ensures) _ (c .before .before .before .before .head-right .ensures) (not-false _ (c .before .before .before .if3 .left)) _ (c .before .before .is-body .ensures) (not-true _ (c .before .if4 .taken))
+    c .refuse4 .ensures ∙ body-wrong (a .text .now) (a .m) (a .line) (a .place) (a .size) (c .before .before .before .before .before .before .before .before .if1 .left)
+    (c .before .before .before .before .before .before .if2 .left)
+    _ (c .before .before .before .before .before .equation-record .ensures) _ (c .before .before .before .before .head-right .ensures) (not-false _ (c .before .before .before .if3 .left)) _
+    (c .before .before .is-body .ensures) (not-true _ (c .before .if4 .taken))
 
 with-equation-requires : tie.Need-with-equation-requires
 with-equation-requires c κs = search needs
@@ -60,8 +63,10 @@ accept-requires c κs = search needs
 returns-5 : tie.Need-returns-5
 returns-5 c =
     let a = c .before .before .before .before .before .before .before .before .before .before .before .args in
-    c .accept .ensures ∙ ap accepted (c .before .with-equation .ensures) ∙ equation-right (a .text .now) (a .m) (a .line) (a .place) (a .size) (c .before .before .before .before .before .before .before .before .before .if1 .left) (c .before .before .before .before .before .before .before .if2 .left)
-    _ (c .before .before .before .before .before .before .equation-record .ensures) _ (c .before .before .before .before .before .head-right .ensures) (not-false _ (c .before .before .before .before .if3 .left)) _ (c .before .before .before .is-body .ensures) (not-false _ (c .before .before .if4 .left))
+    c .accept .ensures ∙ ap accepted (c .before .with-equation .ensures) ∙ equation-right (a .text .now) (a .m) (a .line) (a .place) (a .size)
+    (c .before .before .before .before .before .before .before .before .before .if1 .left) (c .before .before .before .before .before .before .before .if2 .left)
+    _ (c .before .before .before .before .before .before .equation-record .ensures) _ (c .before .before .before .before .before .head-right .ensures)
+    (not-false _ (c .before .before .before .before .if3 .left)) _ (c .before .before .before .is-body .ensures) (not-false _ (c .before .before .if4 .left))
 
 pub read-equation-spec : {M : Type 1} → statement M
 read-equation-spec =

@@ -25,12 +25,14 @@ refuse-requires c κs = search needs
 returns : tie.Need-returns
 returns c =
     let a = c .before .before .before .before .args in
-    c .read-equation .ensures ∙ frame-equation (a .text .now) (a .m) (a .line) (a .place) (bytes-at (a .text .now) (a .place) (a .size)) _ (c .before .before .byte .ensures) (c .before .match .keys1)
+    c .read-equation .ensures ∙ frame-equation (a .text .now) (a .m) (a .line) (a .place) (bytes-at (a .text .now) (a .place) (a .size)) _ (c .before .before .byte .ensures)
+    (c .before .match .keys1)
 
 returns-2 : tie.Need-returns-2
 returns-2 c =
     let a = c .before .before .before .before .args in
-    c .read-start .ensures ∙ frame-start (a .text .now) (a .m) (a .line) (a .place) (bytes-at (a .text .now) (a .place) (a .size)) _ (c .before .before .byte .ensures) (c .before .match .keys2)
+    c .read-start .ensures ∙ frame-start (a .text .now) (a .m) (a .line) (a .place) (bytes-at (a .text .now) (a .place) (a .size)) _ (c .before .before .byte .ensures)
+    (c .before .match .keys2)
 
 returns-3 : tie.Need-returns-3
 returns-3 c =
@@ -41,7 +43,8 @@ returns-4 : tie.Need-returns-4
 returns-4 c =
     let a = c .before .before .before .before .args in
     let n = c .before .match .rest in
-    c .refuse .ensures ∙ frame-none (a .text .now) (a .m) (a .line) (a .place) (bytes-at (a .text .now) (a .place) (a .size)) _ (c .before .before .byte .ensures) (n .0 .0 .1) (n .0 .1) (n .1)
+    c .refuse .ensures ∙ frame-none (a .text .now) (a .m) (a .line) (a .place) (bytes-at (a .text .now) (a .place) (a .size)) _ (c .before .before .byte .ensures) (n .0 .0 .1) (n .0 .1)
+    (n .1)
 
 pub read-frame-spec : {M : Type 1} → statement M
 read-frame-spec =

@@ -16,7 +16,8 @@ refuse-requires c κs = search needs
 returns : tie.Need-returns
 returns c =
     let a = c .before .before .before .before .args in
-    c .refuse .ensures ∙ line-characters (a .text .now) (a .at) (a .end) (c .before .before .before .before .pre .0) (c .before .before .before .before .pre .1) (a .m) (a .line) (c .before .before .all-digits .ensures) (not-true _ (c .before .if1 .taken))
+    c .refuse .ensures ∙ line-characters (a .text .now) (a .at) (a .end) (c .before .before .before .before .pre .0) (c .before .before .before .before .pre .1) (a .m) (a .line)
+    (c .before .before .all-digits .ensures) (not-true _ (c .before .if1 .taken))
 
 is-shaped-requires : tie.Need-is-shaped-requires
 is-shaped-requires c κs = search needs
@@ -27,7 +28,9 @@ refuse-requires-2 c κs = search needs
 returns-2 : tie.Need-returns-2
 returns-2 c =
     let a = c .before .before .before .before .before .before .args in
-    c .refuse2 .ensures ∙ line-shape (a .text .now) (a .at) (a .end) (c .before .before .before .before .before .before .pre .0) (c .before .before .before .before .before .before .pre .1) (a .m) (a .line) (c .before .before .before .before .all-digits .ensures) (not-false _ (c .before .before .before .if1 .left)) (c .before .before .is-shaped .ensures) (not-true _ (c .before .if2 .taken))
+    c .refuse2 .ensures ∙ line-shape (a .text .now) (a .at) (a .end) (c .before .before .before .before .before .before .pre .0) (c .before .before .before .before .before .before .pre .1)
+    (a .m) (a .line) (c .before .before .before .before .all-digits .ensures) (not-false _ (c .before .before .before .if1 .left)) (c .before .before .is-shaped .ensures)
+    (not-true _ (c .before .if2 .taken))
 
 sub-size : tie.Need-sub-size
 sub-size c = search needs
@@ -38,7 +41,9 @@ read-frame-requires c κs = search needs
 returns-3 : tie.Need-returns-3
 returns-3 c =
     let a = c .before .before .before .before .before .before .args in
-    c .read-frame .ensures ∙ line-frame (a .text .now) (a .at) (a .end) (c .before .before .before .before .before .before .pre .0) (c .before .before .before .before .before .before .pre .1) (a .m) (a .line) (c .before .before .before .before .all-digits .ensures) (not-false _ (c .before .before .before .if1 .left)) (c .before .before .is-shaped .ensures) (not-false _ (c .before .if2 .left))
+    c .read-frame .ensures ∙ line-frame (a .text .now) (a .at) (a .end) (c .before .before .before .before .before .before .pre .0)
+    (c .before .before .before .before .before .before .pre .1) (a .m) (a .line) (c .before .before .before .before .all-digits .ensures)
+    (not-false _ (c .before .before .before .if1 .left)) (c .before .before .is-shaped .ensures) (not-false _ (c .before .if2 .left))
 
 pub read-line-spec : {M : Type 1} → statement M
 read-line-spec =

@@ -44,7 +44,8 @@ returns-2 : tie.Need-returns-2 Inv-loop μ-loop
 returns-2 c =
     let a = c .before .before .before .before .before .before .before .before .before .args in
     let l = c .before .before .before .before .before .loop in
-    sym (l .inv .1 ∙ stops (a .text .now) (l .at) (c .before .before .before .line-end .result) (c .before .before .before .before .loop-test .taken) (c .before .before .before .line-end .ensures .0) (l .m) (l .line) (c .before .before .read-line .result) (c .before .before .read-line .ensures) (c .if2 .taken))
+    sym (l .inv .1 ∙ stops (a .text .now) (l .at) (c .before .before .before .line-end .result) (c .before .before .before .before .loop-test .taken)
+    (c .before .before .before .line-end .ensures .0) (l .m) (l .line) (c .before .before .read-line .result) (c .before .before .read-line .ensures) (c .if2 .taken))
 
 add-at : tie.Need-add-at Inv-loop μ-loop
 add-at c = omega arith
@@ -60,7 +61,9 @@ loop-again c =
     let a = c .before .before .before .before .before .before .before .before .before .before .args in
     let l = c .before .before .before .before .before .before .loop in (
       ((omega arith, omega arith), rw (c .before .before .before .read-line .ensures) (sound-line (a .text .now) (l .m) (l .line) (l .inv .0 .1) _)),
-      l .inv .1 ∙ goes (a .text .now) (l .at) (c .before .before .before .before .line-end .result) (c .before .before .before .before .before .loop-test .taken) (c .before .before .before .before .line-end .ensures .0) (l .m) (l .line) (c .before .before .before .read-line .result) (c .before .before .before .read-line .ensures) (c .before .if2 .left),
+      l .inv .1 ∙ goes (a .text .now) (l .at) (c .before .before .before .before .line-end .result) (c .before .before .before .before .before .loop-test .taken)
+          (c .before .before .before .before .line-end .ensures .0) (l .m) (l .line) (c .before .before .before .read-line .result) (c .before .before .before .read-line .ensures)
+          (c .before .if2 .left),
     )
 
 finish-requires : tie.Need-finish-requires Inv-loop μ-loop

@@ -30,7 +30,8 @@ refuse-requires-3 c κs = search needs
 returns-3 : tie.Need-returns-3
 returns-3 c =
     let a = c .before .before .before .before .before .before .args in
-    c .refuse3 .ensures ∙ start-short (a .text .now) (a .m) (a .line) (a .place) (a .size) (c .before .before .before .before .if1 .left) (c .before .before .if2 .left) (c .before .if3 .taken)
+    c .refuse3 .ensures ∙ start-short (a .text .now) (a .m) (a .line) (a .place) (a .size) (c .before .before .before .before .if1 .left) (c .before .before .if2 .left)
+    (c .before .if3 .taken)
 
 start-record-requires : tie.Need-start-record-requires
 start-record-requires c κs = search needs
@@ -45,7 +46,8 @@ returns-4 : tie.Need-returns-4
 returns-4 c =
     let a = c .before .before .before .before .before .before .before .before .args in
     c .accept .ensures ∙ ap accepted (c .before .with-start .ensures ∙ ap (with-start (a .m)) (c .before .before .start-record .ensures))
-    ∙ start-right (a .text .now) (a .m) (a .line) (a .place) (a .size) (c .before .before .before .before .before .before .if1 .left) (c .before .before .before .before .if2 .left) (c .before .before .before .if3 .left)
+    ∙ start-right (a .text .now) (a .m) (a .line) (a .place) (a .size) (c .before .before .before .before .before .before .if1 .left) (c .before .before .before .before .if2 .left)
+    (c .before .before .before .if3 .left)
 
 pub read-start-spec : {M : Type 1} → statement M
 read-start-spec =

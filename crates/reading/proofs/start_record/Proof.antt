@@ -29,7 +29,16 @@ returns : tie.Need-returns
 unfolding start-record
 returns c =
     let a = c .before .before .before .before .before .before .before .args in
-    rw (length-bytes (a .text .now) (a .place) (a .size), c .difference .ensures, c .before .byte5 .ensures, c .before .before .byte4 .ensures, c .before .before .before .byte3 .ensures, c .before .before .before .before .byte2 .ensures, c .before .before .before .before .before .byte .ensures) refl
+    rw (
+      length-bytes (a .text .now) (a .place)
+          (a .size),
+      c .difference .ensures,
+      c .before .byte5 .ensures,
+      c .before .before .byte4 .ensures,
+      c .before .before .before .byte3 .ensures,
+      c .before .before .before .before .byte2 .ensures,
+      c .before .before .before .before .before .byte .ensures,
+    ) refl
 
 pub start-record-spec : {M : Type 1} → statement M
 start-record-spec =
