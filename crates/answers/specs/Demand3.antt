@@ -1,18 +1,23 @@
--- DEMAND 3: more never takes away: a looser model keeps what holds, more room keeps the answer, and only the room decides on 9.
--- Stated over the answers for two texts, and for two rooms of one text; by the meaning's law on looser models and the order of the refusals.
+-- DEMAND 3: more never takes away: a looser model keeps what is true, more room the answer; room alone decides on 9.
+-- Over answers for two texts, and for two rooms of one text; by the law on looser models and the order of refusals.
 use Prim.Native.Nat.{ℕ, _≤_, _<_}
 use native.Mathlib.Omega.{arith}
 use mathlib.Core.Path.{_≡_, refl, sym, ap, subst, _∙_}
-use mathlib.Core.List.{List, map}
-use lib.ListN.{length, length-map}
+use mathlib.Core.Bool.{true}
+use mathlib.Core.List.{List, [], _∷_, map}
+use lib.ListN.{length, getD, length-map}
 use lib.Seq.{take-all}
+use Rattle.meaning.specs.Logic.{Is→eq, eq→Is}
+use Rattle.meaning.specs.Reach.{Instance}
 use Rattle.meaning.specs.Words.{word}
 use Rattle.meaning.specs.Looser.{Looser, looser-holds}
 use Rattle.reading.specs.Reading.{reading}
+use Rattle.reading.proofs.WellFormed.{reading-well-formed}
+use Rattle.truth.specs.Bits.{bit-of}
 use Rattle.answers.specs.declared.Answer.{Answer}
-use Rattle.answers.specs.Answers.{the-model, the-start, list, room-of, refusal, verdict, answer, kept-words, checked}
+use Rattle.answers.specs.Answers.{the-model, the-start, list, truth-in, room-of, refusal, verdict, answer, kept-words, checked}
 use Rattle.answers.specs.Demand1.{_exactly-when_, Reply, short-list, text-refused, too-many, judged-so, every-answer, records-enough, then-verdict, nine-given}
-use Rattle.answers.specs.Demand2.{start-first, holds-exactly, verdict-read, verdict-room}
+use Rattle.answers.specs.Demand2.{start-first, holds-exactly, verdict-read, verdict-room, bit-is-value}
 
 -- an answer that holds is a verdict
 holding-is-verdict : (t : List ℕ) (words : ℕ) → answer t words .verdict ≡ 1 → answer t words .number ≡ 0
@@ -25,11 +30,34 @@ holding-is-verdict t words h = subst (λ (a : Answer). a .verdict ≡ 1 → a .n
     of (too-many l r m) e = absurd (omega arith)
     of (judged-so l r m) e = refl
 
--- what holds for a text holds for one with a looser model and the same start, where a verdict is given for it
-pub looser-text-holds : (t t′ : List ℕ) (words words′ : ℕ) → Looser (the-model t) (the-model t′) → the-start t ≡ the-start t′ →
-    answer t words .verdict ≡ 1 → answer t′ words′ .number ≡ 0 → answer t′ words′ .verdict ≡ 1
-looser-text-holds t t′ words words′ l s h v =
-    holds-exactly t′ words′ v _ _ (sym s) .1 (looser-holds (the-model t) (the-model t′) l _ _ (holds-exactly t words (holding-is-verdict t words h) _ _ refl .0 h))
+module _ (t t′ : List ℕ) (words words′ : ℕ) (l : Looser (the-model t) (the-model t′)) where
+  -- what is true for a text that is given a verdict is true for one with a looser model
+  meaning-kept : answer t words .number ≡ 0 → (i : Instance) →
+      truth-in (the-model t) i ≡ true → truth-in (the-model t′) i ≡ true
+  unfolding truth-in
+  meaning-kept v [] h = h
+  meaning-kept v (e ∷ x) h =
+      let well = reading-well-formed t (verdict-read t words v) in
+      Is→eq (looser-holds (the-model t) (the-model t′) (the-start t) well l e x (eq→Is h))
+
+  -- an instance in both lists, at whatever places, that is true for the first text is true for the second;
+  -- the starts play no part
+  pub looser-text-bits : answer t words .number ≡ 0 → answer t′ words′ .number ≡ 0 →
+      (j j′ : ℕ) → j < length (list t) → j′ < length (list t′) → getD (list t) j [] ≡ getD (list t′) j′ [] →
+      bit-of (answer t words .truth) j ≡ true → bit-of (answer t′ words′ .truth) j′ ≡ true
+  looser-text-bits v v′ j j′ h h′ e b =
+      bit-is-value t′ words′ v′ j′ h′
+      ∙ ap (truth-in (the-model t′)) (sym e)
+      ∙ meaning-kept v (getD (list t) j []) (sym (bit-is-value t words v j h) ∙ b)
+
+  -- what holds for a text holds for one with a looser model and the same start, where that has a verdict
+  pub looser-text-holds : the-start t ≡ the-start t′ →
+      answer t words .verdict ≡ 1 → answer t′ words′ .number ≡ 0 → answer t′ words′ .verdict ≡ 1
+  unfolding truth-in
+  looser-text-holds s h v′ =
+      let v = holding-is-verdict t words h in
+      let held = meaning-kept v (the-start t) (Is→eq (holds-exactly t words v _ _ refl .0 h)) in
+      holds-exactly t′ words′ v′ _ _ (sym s) .1 (eq→Is held)
 
 module _ (t : List ℕ) (words more : ℕ) (l : words ≤ more) (v : answer t words .number ≡ 0) where
   -- with more room the answer is the same: verdict, counts and truth
