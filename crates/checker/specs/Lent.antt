@@ -1,43 +1,73 @@
--- THEOREMS: demand 1 for the lent records. On any refusal they are as they were, on a verdict they are the equations' and then what was there; the list is as long as before.
--- By the test in `records-after`; that a verdict needs eight records is a theorem over the answers.
-use Prim.Native.Nat.{ℕ, _+_, _≤_, _<_}
+-- THEOREMS: demand 1 for the lent records, after reading and after checking: kept on a refusal, else filled.
+-- One law over the number answered, by the test in `records-after`; 0 is answered only where eight are lent.
+use Prim.Native.Nat.{ℕ, _≤_}
 use native.Mathlib.Omega.{arith}
-use mathlib.Core.Path.{_≡_, refl, ap, _∙_}
-use mathlib.Core.List.{List, _++_, map}
+use mathlib.Core.Path.{_≡_, refl, _∙_}
+use mathlib.Core.Bool.{Bool, true, false, cond}
+use mathlib.Core.List.{List, _++_}
+use lib.Dec.{eqb, ltb}
 use lib.ListN.{length, take, drop, length-append, length-drop, length-map}
 use lib.Seq.{length-take-le}
-use borrow.Author.Tests.{eq-eqb, ne-eqb}
-use Rattle.formulas.specs.declared.Equation.{Equation}
+use borrow.Author.Tests.{eqb-true, eqb-false, ltb-false}
 use Rattle.reading.specs.Reading.{reading}
 use Rattle.reading.proofs.Sound.{sound}
 use Rattle.answers.specs.Answers.{checked}
 use Rattle.answers.specs.Demand1.{verdict-given}
 use Rattle.checker.specs.declared.Record.{Record}
-use Rattle.checker.specs.Records.{record-of, records-of, records-after, records-after-check}
+use Rattle.checker.specs.declared.ReadAnswer.{ReadAnswer}
+use Rattle.checker.specs.Records.{record-of, records-of, read-answer}
+use Rattle.checker.specs.Records.{records-after, records-after-read, records-after-check}
 
-module _ (t : List ℕ) (words-lent : ℕ) (records : List Record) where
-  abbrev number : ℕ
-  number = checked t (length records) words-lent .number
-
+-- what an operation that answers `number` to the text t leaves of the records lent
+pub record Lent (t : List ℕ) (records : List Record) (number : ℕ) (left : List Record) : Type 0 where
   -- "and so do all records on any refusal, 9 included"
-  pub records-stay : (number ≡ 0 → ⊥) → records-after-check t words-lent records ≡ records
-  unfolding records-after-check records-after
-  records-stay h = rw (ne-eqb number 0 h) refl
-
+  pub records-stay : (number ≡ 0 → ⊥) → left ≡ records
   -- "Reading fills a lent list of equation records"; "Records past the equation count stay as they were"
-  pub records-filled : number ≡ 0 → records-after-check t words-lent records ≡ records-of (reading t .model) ++ drop (reading t .model .count) records
-  unfolding records-after-check records-after
-  records-filled h = rw (eq-eqb number 0 h) refl
-
-  -- a record for each equation
-  pub records-counted : length (records-of (reading t .model)) ≡ reading t .model .count
-  unfolding records-of
-  records-counted =
-      length-map (take (reading t .model .count) (reading t .model .equations)) record-of
-      ∙ length-take-le (reading t .model .count) (reading t .model .equations) (omega (arith, sound t .few, sound t .eight))
-
+  pub records-filled : number ≡ 0 →
+      left ≡ records-of (reading t .model) ++ drop (reading t .model .count) records
   -- what is lent is given back at its length
-  pub records-length : number ≡ 0 → length (records-after-check t words-lent records) ≡ length records
-  records-length h =
-      ap length (records-filled h) ∙ length-append (records-of (reading t .model)) (drop (reading t .model .count) records)
-      ∙ omega (arith, records-counted, length-drop (reading t .model .count) records, sound t .few, verdict-given t (length records) words-lent .0 h .0)
+  pub records-length : length left ≡ length records
+
+-- a record for each equation
+pub records-counted : (t : List ℕ) → length (records-of (reading t .model)) ≡ reading t .model .count
+unfolding records-of
+records-counted t =
+    length-map (take (reading t .model .count) (reading t .model .equations)) record-of
+    ∙ length-take-le (reading t .model .count) (reading t .model .equations)
+    (omega (arith, sound t .few, sound t .eight))
+
+module _ (t : List ℕ) (records : List Record) where
+  lent-after : (number : ℕ) → (number ≡ 0 → 8 ≤ length records) →
+      Lent t records number (records-after number (reading t .model) records)
+  unfolding records-after
+  lent-after number enough = by-number (eqb number 0) refl
+    where
+      by-number : (b : Bool) → eqb number 0 ≡ b →
+          Lent t records number (cond b (records-of (reading t .model) ++ drop (reading t .model .count) records) records)
+      by-number true e =
+          let zero = eqb-true number 0 e in
+          record {
+            records-stay = λ n. absurd (n zero);
+            records-filled = λ _. refl;
+            records-length =
+                length-append (records-of (reading t .model)) (drop (reading t .model .count) records)
+                ∙ omega (arith, records-counted t, length-drop (reading t .model .count) records, sound t .few, enough zero);
+          }
+      by-number false e =
+          let refused = eqb-false number 0 e in
+          record { records-stay = λ _. refl; records-filled = λ z. absurd (refused z); records-length = refl }
+
+  pub lent-after-read : Lent t records (read-answer t (length records) .number) (records-after-read t records)
+  unfolding records-after-read read-answer
+  lent-after-read = lent-after _ (enough (ltb (length records) 8) refl _)
+    where
+      enough : (b : Bool) → ltb (length records) 8 ≡ b → (a : ReadAnswer) →
+          cond {A = ReadAnswer} b (record { number = 5; line = 0 }) a .number ≡ 0 → 8 ≤ length records
+      enough true e a z = absurd (omega arith)
+      enough false e a z = ltb-false (length records) 8 e
+
+  pub lent-after-check : (words-lent : ℕ) →
+      Lent t records (checked t (length records) words-lent .number)
+      (records-after-check t words-lent records)
+  unfolding records-after-check
+  lent-after-check words-lent = lent-after _ (λ z. verdict-given t (length records) words-lent .0 z .0)
