@@ -1,5 +1,5 @@
--- The sample models of document 01 that are marked P, from their texts: one table, computed from the definitions alone.
--- Nothing of the laws is used, so a slip in a definition shows here.
+-- The sample models of document 01 that are marked P, from their texts: one table under one theorem.
+-- Computed from the definitions alone. Nothing of the laws is used, so a slip in a definition shows here.
 use Prim.Native.Nat.{ℕ, zero, suc, _+_}
 use Prim.Native.Char.{code}
 use Prim.Native.String.{String, len, charAt}
@@ -35,72 +35,99 @@ bytes-from s p (suc n) = code (charAt s p) ∷ bytes-from s (p + 1) n
 unfoldable pub bytes : String → List ℕ
 bytes s = bytes-from s 0 (len s)
 
--- a text and how many words are lent for the table; then the answer, and the words that are kept in the table
-pub record Sample : Type 0 where
-  pub text : String
+-- so many words lent for the table; then the answer, and the words that are kept in the table
+pub record Lending : Type 0 where
   pub words-lent : ℕ
   pub answer : Answer
   pub kept : List ℕ
 
-abbrev sample : String → ℕ → Answer → List ℕ → Sample
-sample text words-lent answer kept = record { text = text; words-lent = words-lent; answer = answer; kept = kept }
+-- a text; what the checking program prints for it; the answers and tables, for one or more lengths lent
+pub record Sample : Type 0 where
+  pub text : String
+  pub output : String
+  pub lendings : List Lending
+
+abbrev sample : String → String → List Lending → Sample
+sample text output lendings = record { text = text; output = output; lendings = lendings }
+
+abbrev lending : ℕ → Answer → List ℕ → Lending
+lending words-lent answer kept = record { words-lent = words-lent; answer = answer; kept = kept }
+
+-- 512 words lent and no other length
+abbrev full : Answer → List ℕ → List Lending
+full answer kept = lending 512 answer kept ∷ []
+
+-- eight words, of which the first has bits
+abbrev eight : ℕ → List ℕ
+eight word = word ∷ replicate 7 0
 
 -- the counts of reached and of true instances, and their truth: instance 0 is the last of these binary digits
 abbrev holds-with : ℕ → ℕ → ℕ → Answer
-holds-with reached trues truth = record { number = 0; line = 0; verdict = 1; reached = reached; trues = trues; truth = truth ∷ replicate 7 0 }
+holds-with reached trues truth =
+    record { number = 0; line = 0; verdict = 1; reached = reached; trues = trues; truth = eight truth }
 
 abbrev fails-with : ℕ → ℕ → ℕ → Answer
-fails-with reached trues truth = record { number = 0; line = 0; verdict = 0; reached = reached; trues = trues; truth = truth ∷ replicate 7 0 }
+fails-with reached trues truth =
+    record { number = 0; line = 0; verdict = 0; reached = reached; trues = trues; truth = eight truth }
 
 abbrev pub samples : List Sample
 samples =
-    sample "0100001a0000\n0200\n" 512 (fails-with 1 0 0b0) (0 ∷ []) ∷
-    sample "0101001a0000\n0200\n" 512 (holds-with 1 1 0b1) (0 ∷ []) ∷
-    sample "0100001a0100\n0101001a0000\n0200\n" 512 (fails-with 2 0 0b00) (0 ∷ 65_536 ∷ []) ∷
-    sample "0101001a0100\n0100001a0000\n0201\n" 512 (holds-with 2 2 0b11) (65_536 ∷ 0 ∷ []) ∷
-    sample "010101031a0001220321002001\n020000\n" 512 (holds-with 3 3 0b111) (0 ∷ 4_096 ∷ 8_192 ∷ []) ∷
-    sample "010001031a0001220321002001\n020000\n" 512 (fails-with 3 0 0b000) (0 ∷ 4_096 ∷ 8_192 ∷ []) ∷
-    sample "010101031a0001220321002001\n020000\n" 3 (holds-with 3 3 0b111) (0 ∷ 4_096 ∷ 8_192 ∷ []) ∷
-    sample "010101031a0001220321002001\n020000\n" 2 (refusal 9 0) (0 ∷ 4_096 ∷ []) ∷
-    sample "010001041317210020011a0001220421002001\n020001\n" 512 (holds-with 4 4 0b1111) (4_096 ∷ 8_192 ∷ 12_288 ∷ 0 ∷ []) ∷
-    sample "01000012101a0100\n0101001a0100\n0200\n" 512 (fails-with 1 0 0b0) (0 ∷ []) ∷
-    sample "01000014031721002002\n0200\n" 512 (fails-with 1 0 0b0) (0 ∷ []) ∷
-    sample "01000015031721002002\n0200\n" 512 (holds-with 1 1 0b1) (0 ∷ []) ∷
-    sample "010000162304200220032000\n0200\n" 512 (holds-with 1 1 0b1) (0 ∷ []) ∷
-    sample "0200\n" 512 (refusal 4 1) [] ∷
+    sample "0100001a0000\n0200\n" "040000\n050000010000\n"
+    (full (fails-with 1 0 0b0) (0 ∷ [])) ∷
+    sample "0101001a0000\n0200\n" "040001\n050100010001\n"
+    (full (holds-with 1 1 0b1) (0 ∷ [])) ∷
+    sample "0100001a0100\n0101001a0000\n0200\n" "040000\n040100\n050000020000\n"
+    (full (fails-with 2 0 0b00) (0 ∷ 65_536 ∷ [])) ∷
+    sample "0101001a0100\n0100001a0000\n0201\n" "040101\n040001\n050100020002\n"
+    (full (holds-with 2 2 0b11) (65_536 ∷ 0 ∷ [])) ∷
+    sample "010101031a0001220321002001\n020000\n" "04000001\n04000101\n04000201\n050100030003\n"
+    (lending 512 (holds-with 3 3 0b111) (0 ∷ 4_096 ∷ 8_192 ∷ []) ∷
+    lending 3 (holds-with 3 3 0b111) (0 ∷ 4_096 ∷ 8_192 ∷ []) ∷
+    lending 2 (refusal 9 0) (0 ∷ 4_096 ∷ []) ∷
+    []) ∷
+    sample "010001031a0001220321002001\n020000\n" "04000000\n04000100\n04000200\n050000030000\n"
+    (full (fails-with 3 0 0b000) (0 ∷ 4_096 ∷ 8_192 ∷ [])) ∷
+    sample "010001041317210020011a0001220421002001\n020001\n"
+    "04000101\n04000201\n04000301\n04000001\n050100040004\n"
+    (full (holds-with 4 4 0b1111) (4_096 ∷ 8_192 ∷ 12_288 ∷ 0 ∷ [])) ∷
+    sample "01000012101a0100\n0101001a0100\n0200\n" "040000\n050000010000\n"
+    (full (fails-with 1 0 0b0) (0 ∷ [])) ∷
+    sample "01000014031721002002\n0200\n" "040000\n050000010000\n"
+    (full (fails-with 1 0 0b0) (0 ∷ [])) ∷
+    sample "01000015031721002002\n0200\n" "040001\n050100010001\n"
+    (full (holds-with 1 1 0b1) (0 ∷ [])) ∷
+    sample "010000162304200220032000\n0200\n" "040001\n050100010001\n"
+    (full (holds-with 1 1 0b1) (0 ∷ [])) ∷
+    sample "0200\n" "06040001\n"
+    (full (refusal 4 1) []) ∷
     []
 
 -- the words that are lent, as they were
 abbrev pub lent : ℕ → List ℕ
 lent n = replicate n 0xffff_ffff
 
--- the answer to a sample's text where eight records are lent, and what the table then holds
-abbrev pub outcome : Sample → Answer × List ℕ
-outcome s = (checked (bytes (s .text)) 8 (s .words-lent), table-after-check (bytes (s .text)) 8 (lent (s .words-lent)))
+-- the answer where eight records and so many words are lent, and what the table then holds
+abbrev pub given : List ℕ → Lending → Answer × List ℕ
+given t l = (checked t 8 (l .words-lent), table-after-check t 8 (lent (l .words-lent)))
 
--- the sample's answer; its words, and the rest untouched
-abbrev pub expected : Sample → Answer × List ℕ
-expected s = (s .answer, s .kept ++ drop (length (s .kept)) (lent (s .words-lent)))
+-- the answer of document 01; its words, and the rest of the table untouched
+abbrev pub promised : Lending → Answer × List ℕ
+promised l = (l .answer, l .kept ++ drop (length (l .kept)) (lent (l .words-lent)))
 
--- "the listing above", and "the whole output"
-abbrev pub listing : List ℕ
-listing = bytes "010001041317210020011a0001220421002001\n020001\n"
+abbrev pub outcome : Sample → List ℕ × List (Answer × List ℕ)
+outcome s = (printed (bytes (s .text)), map (given (bytes (s .text))) (s .lendings))
 
-abbrev pub listing-output : List ℕ
-listing-output = bytes "04000101\n04000201\n04000301\n04000001\n050100040004\n"
+abbrev pub expected : Sample → List ℕ × List (Answer × List ℕ)
+expected s = (bytes (s .output), map promised (s .lendings))
 
-computed : (map outcome samples ≡ map expected samples) × (printed listing ≡ listing-output)
-unfolding bytes-from bytes _and_ _or_ _⇒_ join over same mem all every some least greatest solution sum difference value holds spread in-range system meaning
-    join-simplified simplified instances body-of next fresh explore every-instance reached all-ranges term-range arguments-fit fits within typed word
-    byte-at bytes-at row-of in-row term-of-kind term-at formula-of-kind formula-at body-at is-body is-fitting lines-of all-digits equation-record head-right start-record
-    model-of with-equation with-start start-right read-equation read-start read-frame read-line start-judged instances-judged finished read-lines reading
-    from-digits words count-true list truth-in shown-values verdict judged answer table-after checked table-after-check characters line-of instance-lines printed
-computed = (refl, refl)
-
--- every sample marked P has the answer and the table that document 01 gives
+-- every sample marked P has the output, the answer and the table that document 01 gives
 pub samples-computed : map outcome samples ≡ map expected samples
-samples-computed = computed .0
-
--- the checking program prints the listing's lines
-pub listing-printed : printed listing ≡ listing-output
-listing-printed = computed .1
+unfolding bytes-from bytes _and_ _or_ _⇒_ join over same mem all every some least greatest solution sum
+    difference value holds spread in-range system meaning join-simplified simplified instances body-of next
+    fresh explore every-instance reached all-ranges term-range arguments-fit fits within typed word byte-at
+    bytes-at row-of in-row term-of-kind term-at formula-of-kind formula-at body-at is-body is-fitting lines-of
+    all-digits equation-record head-right start-record model-of with-equation with-start start-right
+    read-equation read-start read-frame read-line start-judged instances-judged finished read-lines reading
+    from-digits words count-true list truth-in shown-values verdict judged answer table-after checked
+    table-after-check characters line-of instance-lines printed
+samples-computed = refl
