@@ -2,7 +2,7 @@
 -- The four tests of the code are the tests on lists, computed for each number of parameters.
 use Prim.Native.Nat.{ℕ, zero, suc, _≤_, _<_, min}
 use native.Mathlib.Omega.{arith}
-use mathlib.Core.Path.{_≡_, refl, sym, ap, subst}
+use mathlib.Core.Path.{_≡_, refl, sym, ap, subst, _∙_}
 use mathlib.Core.Bool.{Bool, true, false, cond, _&&_}
 use mathlib.Core.List.{List, [], _∷_}
 use lib.Dec.{eqb, ltb, leb}
@@ -94,8 +94,12 @@ module _ (n k m : ℕ) (x rs : List ℕ) (hx : length x ≡ 4) (hr : length rs �
       rw (q, le-leb m 4 (omega (arith, e)), ← take-most rs k 4 hr (leb k 4) refl, ← e) (same m (omega (arith, e)))
   judged false h = sym (wrong-number (leb n 4) refl (eqb-false n m h))
 
-  pub arguments-judged : eqb n m && asked-four m x rs ≡ leb n 4 && within (take n x) (take k rs)
-  arguments-judged = judged (eqb n m) refl
+  -- the four tests, joined from the last on, and then with the test of their number
+  pub arguments-judged : {b₀ b₁ b₂ b₃ b₂₃ b₁₂₃ all r : Bool} →
+      b₀ ≡ asked m x rs 0 → b₁ ≡ asked m x rs 1 → b₂ ≡ asked m x rs 2 → b₃ ≡ asked m x rs 3 →
+      b₂₃ ≡ b₂ && b₃ → b₁₂₃ ≡ b₁ && b₂₃ → all ≡ b₀ && b₁₂₃ → r ≡ eqb n m && all →
+      r ≡ leb n 4 && within (take n x) (take k rs)
+  arguments-judged e₀ e₁ e₂ e₃ e₂₃ e₁₂₃ e-all e = e ∙ rw (e-all, e₁₂₃, e₂₃, e₀, e₁, e₂, e₃) (judged (eqb n m) refl)
 
 -- the start's equation
 module _ (m : Model) (l : m .count ≤ length (m .equations)) {i : ℕ} (e : i ≡ m .start .equation) where

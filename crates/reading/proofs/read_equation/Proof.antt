@@ -1,6 +1,7 @@
 -- `reading::read_equation` meets its contract.
 -- One law for each way out.
 use mathlib.Core.Path.{ap, _∙_}
+use native.Mathlib.Omega.{arith}
 use borrow.Author.Tests.{not-true, not-false}
 use Rattle.reading.specs.Reading.{accepted}
 use Rattle.reading.proofs.Answers.{equation-late, equation-ninth, head-wrong, body-wrong, equation-right}
@@ -22,7 +23,8 @@ refuse-requires-2 c κs = search needs
 returns-2 : tie.Need-returns-2
 returns-2 c =
     let a = c .before .before .before .before .before .args in
-    c .refuse2 .ensures ∙ equation-ninth (a .text .now) (a .m) (a .line) (a .place) (a .size) (c .before .before .before .if1 .left) (c .before .if2 .taken)
+    c .refuse2 .ensures ∙ equation-ninth (a .text .now) (a .m) (a .line) (a .place) (a .size)
+    (c .before .before .before .if1 .left) (omega arith)
 
 equation-record-requires : tie.Need-equation-record-requires
 equation-record-requires c κs = search needs

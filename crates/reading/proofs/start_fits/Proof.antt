@@ -67,11 +67,18 @@ returns c =
     let a = c .before .before .before .before .before .before .before .before .before .before .before .before .before .args in
     let n : length (a .s .arguments) ≡ 4 = search needs in
     let r : length (a .e .ranges) ≡ 4 = search needs in
-    let m = c .before .before .before .before .before .before .before .before .before .before .before .smaller .ensures ∙ ap (λ (x : ℕ). min x 4)
-    (c .before .before .before .before .before .before .before .before .before .before .before .before .wide .ensures .0) in
-    rw (c .and4 .ensures, c .before .before .and3 .ensures, c .before .before .before .and2 .ensures, c .before .before .before .before .and .ensures, c .before .before .before .before .before .asked4 .ensures, c .before .before .before .before .before .before .asked3 .ensures, c .before .before .before .before .before .before .before .asked2 .ensures, c .before .before .before .before .before .before .before .before .asked .ensures)
-    (arguments-judged (a .s .count) (a .e .k) (c .before .before .before .before .before .before .before .before .before .before .before .smaller .result) (a .s .arguments)
-    (a .e .ranges) n r m)
+    let wide = c .before .before .before .before .before .before .before .before .before .before .before .before .wide in
+    let smaller = c .before .before .before .before .before .before .before .before .before .before .before .smaller in
+    let m = smaller .ensures ∙ ap (λ (x : ℕ). min x 4) (wide .ensures .0) in
+    arguments-judged (a .s .count) (a .e .k) (smaller .result) (a .s .arguments) (a .e .ranges) n r m
+    (c .before .before .before .before .before .before .before .before .asked .ensures)
+    (c .before .before .before .before .before .before .before .asked2 .ensures)
+    (c .before .before .before .before .before .before .asked3 .ensures)
+    (c .before .before .before .before .before .asked4 .ensures)
+    (c .before .before .before .before .and .ensures)
+    (c .before .before .before .and2 .ensures)
+    (c .before .before .and3 .ensures)
+    (c .and4 .ensures)
 
 pub start-fits-spec : {M : Type 1} → statement M
 start-fits-spec =
