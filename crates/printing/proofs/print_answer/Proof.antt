@@ -1,6 +1,7 @@
 -- `printing::print_answer` meets its contract.
 -- A short buffer stays, and else what is printed is the text's answer, which fits.
 use Prim.Native.Nat.{ℕ}
+use native.Mathlib.Omega.{arith}
 use mathlib.Core.Path.{refl}
 use mathlib.Core.List.{List}
 use lib.ListN.{replicate}
@@ -14,7 +15,7 @@ abbrev blank : List ℕ
 blank = replicate 512 0
 
 returns : tie.Need-returns
-returns c = buffer-stays (c .before .before .before .args .text .now) (c .before .before .before .args .out .now) (c .if1 .taken)
+returns c = buffer-stays (c .before .before .before .args .text .now) (c .before .before .before .args .out .now) (omega arith)
 
 slice-aggregate-examine : tie.Need-slice-aggregate-examine
 slice-aggregate-examine c = search needs
