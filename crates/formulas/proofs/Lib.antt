@@ -1,4 +1,5 @@
 pub mod Told
+pub mod ByKind
 pub mod Terms
 pub mod Laws
 pub mod Bodies
