@@ -305,11 +305,11 @@ fn pair(high: u8, low: u8) -> u8
     high * 16 + low
 }
 
-// What stands at `i`; 0 past the end.
-fn char_at(text: &[u8], i: usize) -> u8
-    ensures { λ r. ⌜ r ≡ getD (now (text .entry)) i 0 ⌝ }
+// What stands at `i` of a list of bytes; 0 past its end.
+pub fn element(list: &[u8], i: usize) -> u8
+    ensures { λ r. ⌜ r ≡ getD (now (list .entry)) i 0 ⌝ }
 {
-    if i < text.len() { text[i] } else { 0 }
+    if i < list.len() { list[i] } else { 0 }
 }
 
 // The byte that the digits at `place` and after it make; 0 where they are not two digits.
@@ -320,8 +320,8 @@ fn byte_at(text: &[u8], place: usize) -> u8
         return 0;
     }
     let next = place + 1;
-    let high = worth(char_at(text, place));
-    let low = worth(char_at(text, next));
+    let high = worth(element(text, place));
+    let low = worth(element(text, next));
     pair(high, low)
 }
 

@@ -12,14 +12,14 @@ returns c = sym (byte-past (c .before .before .args .text .now) (c .before .befo
 add-next : tie.Need-add-next
 add-next c = search needs
 
-char-at-requires : tie.Need-char-at-requires
-char-at-requires c κs = search needs
+element-requires : tie.Need-element-requires
+element-requires c κs = search needs
 
 worth-requires : tie.Need-worth-requires
 worth-requires c κs = search needs
 
-char-at-requires-2 : tie.Need-char-at-requires-2
-char-at-requires-2 c κs = search needs
+element-requires-2 : tie.Need-element-requires-2
+element-requires-2 c κs = search needs
 
 worth-requires-2 : tie.Need-worth-requires-2
 worth-requires-2 c κs = search needs
@@ -29,8 +29,8 @@ pair-requires c κs = search needs
 
 returns-2 : tie.Need-returns-2
 returns-2 c =
-    byte-from _ _ (c .before .before .before .before .char-at .ensures) (c .before .before .before .worth .ensures)
-    (c .before .before .char-at2 .ensures) (c .before .worth2 .ensures) (c .pair .ensures)
+    byte-from _ _ (c .before .before .before .before .element .ensures) (c .before .before .before .worth .ensures)
+    (c .before .before .element2 .ensures) (c .before .worth2 .ensures) (c .pair .ensures)
 
 pub byte-at-spec : {M : Type 1} → statement M
 byte-at-spec =
@@ -38,9 +38,9 @@ byte-at-spec =
     (tie.spec
     returns
     add-next
-    char-at-requires
+    element-requires
     worth-requires
-    char-at-requires-2
+    element-requires-2
     worth-requires-2
     pair-requires
     returns-2)

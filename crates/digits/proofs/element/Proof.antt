@@ -1,0 +1,19 @@
+-- `digits::element` meets its contract.
+-- Past the end of a list `getD` gives its default.
+use mathlib.Core.Path.{sym}
+use lib.ListN.{List·getD-eq-default}
+use borrow.Author.Needs.{needs}
+use Rattle.digits.proofs.element.Statement.{statement}
+use Rattle.digits.proofs.element.Tie as tie
+
+shared-slice-read-result : tie.Need-shared-slice-read-result
+shared-slice-read-result c = search needs
+
+returns : tie.Need-returns
+returns c = search needs
+
+returns-2 : tie.Need-returns-2
+returns-2 c = sym (List·getD-eq-default (c .before .args .list .now) 0 (c .if1 .left))
+
+pub element-spec : {M : Type 1} → statement M
+element-spec = tie.close (tie.spec shared-slice-read-result returns returns-2)
