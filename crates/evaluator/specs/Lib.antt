@@ -1,3 +1,3 @@
 pub mod Values
+pub mod Replies
 pub mod Contract
-pub mod OneReply

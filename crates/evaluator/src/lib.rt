@@ -1,25 +1,28 @@
-// The value of a formula over the bytes of a body: a formula calls on a quantifier's fold, which calls on the formula inside it.
+// The value of a formula over the bytes of a body: a formula calls on a quantifier's fold, which calls on the formula
+// inside it. A table of words says which instances have a number, and a set which of these are true.
 ghost use mathlib.Core.Path.{_≡_};
 ghost use mathlib.Core.Bool.{true, false};
+ghost use mathlib.Core.List.{_∷_};
 ghost use Prim.Native.Nat.{_+_, _≤_, _<_};
-ghost use lib.ListN.{getD, length};
+ghost use lib.ListN.{length};
 ghost use Rattle.meaning.specs.Formulas.{calculation, test-holds};
 ghost use Rattle.meaning.specs.Words.{word};
-ghost use mathlib.Core.List.{_∷_};
 ghost use Rattle.formulas.specs.Decode.{test-of};
 ghost use Rattle.formulas.specs.Scopes.{seen};
 ghost use Rattle.evaluator.specs.Values.{known, join-value, decides, index-of, assignment};
-ghost use Rattle.evaluator.specs.Contract.{TermMeets, TermsMeet, CompareMeets, WordMeets, InstanceMeets, FormulaMeets, FoldMeets, BodyMeets};
+ghost use Rattle.evaluator.specs.Replies.{no-value, ValueReply, no-word, WordReply, body-value};
+ghost use Rattle.evaluator.specs.Contract.{TermMeets, TermsMeet, CompareMeets, InstanceMeets, FormulaMeets, FoldMeets};
+use digits::element;
 use digits::wide;
 use formulas::Kind;
 use formulas::Scope;
 use formulas::TermKind;
 use formulas::Test;
+use formulas::is_range;
 use formulas::kind_of;
 use formulas::push;
 use formulas::term_kind_of;
 use formulas::variable;
-use truth::has;
 
 // The value of a formula or of an instance; Open where it is not known.
 pub enum Value {
@@ -28,28 +31,32 @@ pub enum Value {
     Open,
 }
 
-// The value of a formula, and the place after it.
+// Whether a formula was read, its value, and the place after it.
 pub struct Valued {
+    pub ok: bool,
     pub value: Value,
     pub next: usize,
 }
 
-// The value of a term, and the place after it.
-pub struct TermValue {
-    pub value: u8,
-    pub next: usize,
-}
-
-// The values of some terms in a row, and the place after them.
-pub struct TermValues {
-    pub values: Scope,
-    pub next: usize,
-}
-
-// The word of an instance, and the place after it.
+// Whether an instance was read, its word, and the place after it.
 pub struct WordAt {
+    pub ok: bool,
     pub word: u32,
     pub next: usize,
+}
+
+// Whether a term was read, its value, and the place after it.
+struct TermValue {
+    ok: bool,
+    value: u8,
+    next: usize,
+}
+
+// Whether some terms in a row were read, their values, and the place after them.
+struct TermValues {
+    ok: bool,
+    values: Scope,
+    next: usize,
 }
 
 fn known(b: bool) -> Value
@@ -103,13 +110,6 @@ fn decides(all: bool, a: Value) -> bool
     }
 }
 
-// What stands at `i`; 0 past the end.
-pub fn byte(body: &[u8], i: usize) -> u8
-    ensures { λ r. ⌜ r ≡ getD (now (body .entry)) i 0 ⌝ }
-{
-    if i < body.len() { body[i] } else { 0 }
-}
-
 fn calculate(plus: bool, r: u8, a: u8, b: u8) -> u8
     ensures { λ v. ⌜ (0 < r → v ≡ calculation plus r a b) ⌝ }
 {
@@ -126,27 +126,53 @@ fn calculate(plus: bool, r: u8, a: u8, b: u8) -> u8
     }
 }
 
+// No term stands at `at`.
+fn no_term(at: usize) -> TermValue
+    ensures { λ r. ⌜ (r .ok ≡ false) × (r .next ≡ at) ⌝ }
+{
+    TermValue {
+        ok: false,
+        value: 0,
+        next: at,
+    }
+}
+
 fn term(body: &[u8], at: usize, scope: Scope) -> TermValue
-    ensures { λ r. ⌜ TermMeets (now (body .entry)) at scope (r .value) (r .next) ⌝ }
+    ensures { λ r. ⌜ TermMeets (now (body .entry)) at scope (r .ok) (r .value) (r .next) ⌝ }
 {
     if body.len() <= at {
-        return TermValue { value: 0, next: at };
+        return no_term(at);
     }
-    let x = byte(body, at + 1);
+    let x = element(body, at + 1);
     let next = at + 2;
-    let k = term_kind_of(byte(body, at));
+    let k = term_kind_of(element(body, at));
     match k {
-        TermKind::NoTerm => TermValue { value: 0, next: at },
-        TermKind::Number => TermValue { value: x, next },
-        TermKind::Variable => TermValue {
-            value: variable(scope, x),
+        TermKind::NoTerm => no_term(at),
+        TermKind::Number => TermValue {
+            ok: x <= 15,
+            value: x,
             next,
         },
+        TermKind::Variable => {
+            let i = wide(x);
+            TermValue {
+                ok: i < scope.count,
+                value: variable(scope, x),
+                next,
+            }
+        }
         TermKind::Calculation(plus) => {
+            if !is_range(x) {
+                return no_term(at);
+            }
             let a = term(body, next, scope);
             let m = a.next;
+            if !a.ok {
+                return no_term(at);
+            }
             let b = term(body, m, scope);
             TermValue {
+                ok: b.ok,
                 value: calculate(plus, x, a.value, b.value),
                 next: b.next,
             }
@@ -165,13 +191,29 @@ fn tested(t: Test, a: u8, b: u8) -> bool
     }
 }
 
+// Nothing was read; the place after it is `at`.
+fn no_formula(at: usize) -> Valued
+    ensures { λ r. ⌜ r ≡ no-value at ⌝ }
+{
+    Valued {
+        ok: false,
+        value: Value::False,
+        next: at,
+    }
+}
+
+// The test of the two terms that stand from `at` on.
 fn compare(body: &[u8], at: usize, scope: Scope, t: Test) -> Valued
-    ensures { λ r. ⌜ CompareMeets t (now (body .entry)) at scope (r .value) (r .next) ⌝ }
+    ensures { λ r. ⌜ CompareMeets t (now (body .entry)) at scope (r .ok) (r .value) (r .next) ⌝ }
 {
     let a = term(body, at, scope);
     let m = a.next;
+    if !a.ok {
+        return no_formula(at);
+    }
     let b = term(body, m, scope);
     Valued {
+        ok: b.ok,
         value: known(tested(t, a.value, b.value)),
         next: b.next,
     }
@@ -180,16 +222,24 @@ fn compare(body: &[u8], at: usize, scope: Scope, t: Test) -> Valued
 // The values of n terms in a row, put after those in `got`.
 fn arguments(body: &[u8], at: usize, scope: Scope, n: u8, got: Scope) -> TermValues
     requires { ⌜ got .count + n ≤ 8 ⌝ }
-    ensures { λ r. ⌜ TermsMeet (now (body .entry)) at scope n got (r .values) (r .next) ⌝ }
+    ensures { λ r. ⌜ TermsMeet (now (body .entry)) at scope n got (r .ok) (r .values) (r .next) ⌝ }
 {
     if n == 0 {
         return TermValues {
+            ok: true,
             values: got,
             next: at,
         };
     }
     let a = term(body, at, scope);
     let m = a.next;
+    if !a.ok {
+        return TermValues {
+            ok: false,
+            values: got,
+            next: at,
+        };
+    }
     arguments(body, m, scope, n - 1, push(got, a.value))
 }
 
@@ -204,25 +254,40 @@ fn word(e: u8, values: Scope) -> u32
     whole as u32
 }
 
+// No instance stands at a place.
+fn no_word() -> WordAt
+    ensures { λ r. ⌜ r ≡ no-word ⌝ }
+{
+    WordAt {
+        ok: false,
+        word: 0,
+        next: 0,
+    }
+}
+
 // The word of the instance whose equation, number of arguments and arguments stand from `at` on.
 pub fn word_at(body: &[u8], at: usize, scope: Scope) -> WordAt
-    ensures { λ r. ⌜ WordMeets (now (body .entry)) at scope (r .word) (r .next) ⌝ }
+    ensures { λ r. ⌜ WordReply (now (body .entry)) at scope r ⌝ }
 {
     if body.len() < at {
-        return WordAt { word: 0, next: at };
+        return no_word();
     }
-    let e = byte(body, at);
-    let n = byte(body, at + 1);
+    let e = element(body, at);
+    let n = element(body, at + 1);
     if 4 < n {
-        return WordAt { word: 0, next: at };
+        return no_word();
     }
     let none = Scope {
         values: [0; 8],
         count: 0,
     };
     let got = arguments(body, at + 2, scope, n, none);
+    if !got.ok {
+        return no_word();
+    }
     let values = got.values;
     WordAt {
+        ok: true,
         word: word(e, values),
         next: got.next,
     }
@@ -232,112 +297,153 @@ pub fn word_at(body: &[u8], at: usize, scope: Scope) -> WordAt
 pub fn lookup(table: &[u32], w: u32) -> usize
     ensures { λ r. ⌜ r ≡ index-of (now (table .entry)) w ⌝ }
 {
-    let mut i = 0;
-    while i < table.len() {
+    let mut i: usize = 0;
+    let number = loop {
+        if table.len() <= i {
+            break i;
+        }
         if table[i] == w {
-            break;
+            break i;
         }
         i += 1;
-    }
-    i
+    };
+    number
 }
 
+// The value of the instance with the word w.
 fn value_of(table: &[u32], truth: &[u64; 8], w: u32) -> Value
     ensures { λ r. ⌜ r ≡ assignment (now (table .entry)) (now (truth .entry)) w ⌝ }
 {
     let j = lookup(table, w);
     if j < table.len() {
-        known(has(*truth, j))
+        known(truth::has(*truth, j))
     } else {
         Value::Open
     }
 }
 
+// The value of the instance whose equation stands at `at`.
 fn instance(body: &[u8], at: usize, scope: Scope, table: &[u32], truth: &[u64; 8]) -> Valued
     requires { ⌜ at ≤ length (now body) ⌝ }
-    ensures { λ r. ⌜ InstanceMeets (assignment (now (table .entry)) (now (truth .entry))) (now (body .entry)) at scope (r .value) (r .next) ⌝ }
+    ensures { λ r. ⌜ InstanceMeets (assignment (now (table .entry)) (now (truth .entry))) (now (body .entry)) at scope (r .ok) (r .value) (r .next) ⌝ }
 {
     let a = word_at(body, at, scope);
+    if !a.ok {
+        return no_formula(at);
+    }
     Valued {
+        ok: true,
         value: value_of(table, truth, a.word),
         next: a.next,
     }
 }
 
-// The value of the formula that stands at `at`.
-pub fn value_at(body: &[u8], at: usize, scope: Scope, table: &[u32], truth: &[u64; 8]) -> Valued
-    ensures { λ r. ⌜ FormulaMeets (assignment (now (table .entry)) (now (truth .entry))) (now (body .entry)) at scope (r .value) (r .next) ⌝ }
+// The value of the formula that stands at `at`, with q quantifiers around it.
+fn value_in(body: &[u8], at: usize, scope: Scope, q: u8, table: &[u32], truth: &[u64; 8]) -> Valued
+    requires { ⌜ scope .count ≤ 4 + q ⌝ }
+    ensures { λ r. ⌜ FormulaMeets (assignment (now (table .entry)) (now (truth .entry))) (now (body .entry)) at scope q (r .ok) (r .value) (r .next) ⌝ }
 {
     if body.len() <= at {
-        return Valued {
-            value: Value::False,
-            next: at,
-        };
+        return no_formula(at);
     }
     let next = at + 1;
-    let k = kind_of(byte(body, at));
+    let k = kind_of(element(body, at));
     match k {
-        Kind::NoFormula => Valued {
-            value: Value::False,
-            next: at,
-        },
+        Kind::NoFormula => no_formula(at),
         Kind::Constant(b) => Valued {
+            ok: true,
             value: known(b),
             next,
         },
         Kind::Join(all) => {
-            let a = value_at(body, next, scope, table, truth);
+            let a = value_in(body, next, scope, q, table, truth);
             let m = a.next;
-            let b = value_at(body, m, scope, table, truth);
+            if !a.ok {
+                return no_formula(at);
+            }
+            let b = value_in(body, m, scope, q, table, truth);
             let x = a.value;
             let y = b.value;
             Valued {
+                ok: b.ok,
                 value: joined(all, x, y),
                 next: b.next,
             }
         }
         Kind::Quantifier(all) => {
-            fold(body, at + 2, scope, all, 0, byte(body, next), table, truth)
+            let r = element(body, next);
+            if 4 <= q {
+                return no_formula(at);
+            }
+            if !is_range(r) {
+                return no_formula(at);
+            }
+            fold(body, at + 2, scope, q, all, 0, r, table, truth)
         }
         Kind::Compare(t) => compare(body, next, scope, t),
         Kind::Instance => instance(body, next, scope, table, truth),
     }
 }
 
-// The `and` (the `or`, where `all` is false) of the values that the formula at `at` has where one more variable has the values v, v + 1, .., `left` of them.
+// The `and` (the `or`, where `all` is false) of the values that the formula at `at` has where one more variable has the
+// values v, v + 1, .., `left` of them: by halves, the first half first; the second is left out where the first decides.
 fn fold(
     body: &[u8],
     at: usize,
     scope: Scope,
+    q: u8,
     all: bool,
     v: u8,
     left: u8,
     table: &[u32],
     truth: &[u64; 8],
 ) -> Valued
-    requires { ⌜ v + left ≤ 255 ⌝ }
-    ensures { λ r. ⌜ FoldMeets (assignment (now (table .entry)) (now (truth .entry))) (now (body .entry)) at scope all v left (r .value) (r .next) ⌝ }
+    requires { ⌜ (v + left ≤ 255) × ((0 < left) × ((q < 4) × (scope .count ≤ 4 + q))) ⌝ }
+    ensures { λ r. ⌜ FoldMeets (assignment (now (table .entry)) (now (truth .entry))) (now (body .entry)) at scope q all v left (r .ok) (r .value) (r .next) ⌝ }
 {
-    let a = value_at(body, at, push(scope, v), table, truth);
     if left <= 1 {
+        return value_in(body, at, push(scope, v), q + 1, table, truth);
+    }
+    let half = left / 2;
+    let a = fold(body, at, scope, q, all, v, half, table, truth);
+    if !a.ok {
         return a;
     }
     let x = a.value;
     if decides(all, x) {
         return a;
     }
-    let b = fold(body, at, scope, all, v + 1, left - 1, table, truth);
+    let b = fold(body, at, scope, q, all, v + half, left - half, table, truth);
     let y = b.value;
     Valued {
+        ok: true,
         value: joined(all, x, y),
         next: a.next,
     }
 }
 
-// The value of a body, which is one formula.
-pub fn evaluate(body: &[u8], scope: Scope, table: &[u32], truth: &[u64; 8]) -> Value
-    ensures { λ r. ⌜ BodyMeets (assignment (now (table .entry)) (now (truth .entry))) (now (body .entry)) scope r ⌝ }
+// The value of the formula that stands at `at`, with q quantifiers around it; at most four variables in reach are parameters.
+pub fn value_at(
+    body: &[u8],
+    at: usize,
+    scope: Scope,
+    q: u8,
+    table: &[u32],
+    truth: &[u64; 8],
+) -> Valued
+    ensures { λ r. ⌜ ValueReply (assignment (now (table .entry)) (now (truth .entry))) (now (body .entry)) at scope q r ⌝ }
 {
-    let a = value_at(body, 0, scope, table, truth);
+    if 4 + wide(q) < scope.count {
+        return no_formula(0);
+    }
+    let r = value_in(body, at, scope, q, table, truth);
+    if r.ok { r } else { no_formula(0) }
+}
+
+// The value of a body, which is one formula; false where it is none.
+pub fn evaluate(body: &[u8], scope: Scope, table: &[u32], truth: &[u64; 8]) -> Value
+    ensures { λ r. ⌜ r ≡ body-value (assignment (now (table .entry)) (now (truth .entry))) (now (body .entry)) scope ⌝ }
+{
+    let a = value_at(body, 0, scope, 0, table, truth);
     a.value
 }

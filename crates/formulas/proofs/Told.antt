@@ -50,6 +50,20 @@ module _ {A B : Type 0} {d : A → B} {v : B} {e : ℕ} where
   told-flag a true q = told q
   told-flag a false q = refused
 
+-- what is told of one reading may be said in other words; two things told of one reading go together
+pub told-map : {A B C : Type 0} {d : A → B} {c : A → C} {p : Parsed A} {v : B} {w : C} {e : ℕ} {ok : Bool}
+    → Told d v e p ok → ((a : A) → v ≡ d a → w ≡ c a) → Told c w e p ok
+told-map refused f = refused
+told-map (told {a} q) f = told (f a q)
+
+pub told-no : {A B C : Type 0} {d : A → B} {c : A → C} {p : Parsed A} {v : B} {w : C} {e m : ℕ}
+    → Told d v e p false → Told c w m p false
+told-no refused = refused
+
+pub told-both : {A B C D : Type 0} {b : A → B} {c : A → C} {d : A → D} {p : Parsed A} {v : B} {w : C} {z : D} {e m : ℕ} {ok : Bool}
+    → Told b v e p true → Told c w m p ok → ((a : A) → v ≡ b a → w ≡ c a → z ≡ d a) → Told d z e p true
+told-both (told {a} q) (told r) f = told (f a q r)
+
 -- ---- a whole body
 pub told-ends : {A B : Type 0} {d : A → B} {p : Parsed A} {v : B} {e : ℕ} {ok : Bool} (z : ℕ) → Told d v e p ok → ok && eqb e z ≡ ends z p
 told-ends z refused = refl

@@ -13,6 +13,12 @@ use Rattle.evaluator.specs.Values.{index-of}
 use Rattle.evaluator.proofs.lookup.Statement.{statement}
 use Rattle.evaluator.proofs.lookup.Tie as tie
 
+abbrev Inv-loop : tie.InvT-loop
+Inv-loop table w i₀ i = (i ≤ length table) × (index-of table w ≡ i + index-of (drop i table) w)
+
+abbrev μ-loop : tie.MeasureT-loop
+μ-loop table w i₀ i = length table - i
+
 module _ (t : List ℕ) (w i : ℕ) where
   past : i < length t → (getD t i 0 ≡ w → ⊥) → index-of (drop i t) w ≡ suc (index-of (drop (i + 1) t) w)
   unfolding index-of
@@ -26,53 +32,26 @@ module _ (t : List ℕ) (w i : ℕ) where
   unfolding index-of
   end le = rw (drop-of-length-le t le)
 
-abbrev Inv-loop : tie.InvT-loop
-Inv-loop table w i₀ i = (i ≤ length table) × (index-of table w ≡ i + index-of (drop i table) w)
-
-abbrev μ-loop : tie.MeasureT-loop
-μ-loop table w i₀ i = length table - i
-
-loop-holds : tie.Need-loop-holds Inv-loop μ-loop
-loop-holds c = omega arith
-
-mul-if1 : tie.Need-mul-if1 Inv-loop μ-loop
-mul-if1 c = omega arith
-
-shared-slice-read-if1 : tie.Need-shared-slice-read-if1 Inv-loop μ-loop
-shared-slice-read-if1 c = search needs
-
-add-i : tie.Need-add-i Inv-loop μ-loop
-add-i c = omega arith
-
-loop-less : tie.Need-loop-less Inv-loop μ-loop
-loop-less c = omega arith
-
 loop-again : tie.Need-loop-again Inv-loop μ-loop
 loop-again c =
     let a = c .before .before .before .before .args in
-    omega (arith, past (a .table .now) (a .w) (c .before .before .before .loop .i) (c .before .before .loop-test .taken) (c .if1 .left))
+    let l = c .before .before .before .loop in
+    omega (arith, past (a .table .now) (a .w) (l .i) (c .before .before .if1 .left) (c .if2 .left))
 
 returns : tie.Need-returns Inv-loop μ-loop
 returns c =
     let a = c .before .before .args in
-    omega (arith, end (a .table .now) (a .w) (c .before .loop .i) (c .loop-test .left))
+    omega (arith, end (a .table .now) (a .w) (c .before .loop .i) (c .if1 .taken))
 
 returns-2 : tie.Need-returns-2 Inv-loop μ-loop
 returns-2 c =
     let a = c .before .before .before .before .args in
-    omega (arith, hit (a .table .now) (a .w) (c .before .before .before .loop .i) (c .before .before .loop-test .taken) (c .if1 .taken))
+    let l = c .before .before .before .loop in
+    omega (arith, hit (a .table .now) (a .w) (l .i) (c .before .before .if1 .left) (c .if2 .taken))
 
 pub lookup-spec : {M : Type 1} → statement M
 lookup-spec =
     tie.close
-    (tie.spec
-    Inv-loop
-    μ-loop
-    loop-holds
-    mul-if1
-    shared-slice-read-if1
-    add-i
-    loop-less
-    loop-again
-    returns
-    returns-2)
+    (tie.spec Inv-loop μ-loop
+    (λ c. omega arith) (λ c. omega arith) (λ c. omega arith) (λ c. omega arith)
+    (λ c. omega arith) loop-again returns returns-2)

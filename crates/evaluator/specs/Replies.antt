@@ -1,0 +1,62 @@
+-- DEFINITIONS: what the evaluator replies, for all inputs: the value of a formula, the word of an instance, read at a place.
+-- Where nothing can be read the reply says so; what is read ends past its place. n bounds how deep the decoder goes: as many as the bytes left is enough.
+use Prim.Native.Nat.{ℕ, _+_, _≤_}
+use mathlib.Core.Path.{_≡_}
+use mathlib.Core.Bool.{true, false}
+use mathlib.Core.List.{List, _∷_}
+use lib.Dec.{leb}
+use lib.ListN.{length}
+use Rattle.meaning.specs.Formulas.{Formula, constant, joined, quantified, compared, instance, values}
+use Rattle.meaning.specs.Words.{word}
+use Rattle.formulas.specs.declared.Scope.{Scope}
+use Rattle.formulas.specs.Bodies.{found}
+use Rattle.formulas.specs.Decode.{Parsed, none, some, when, formula-at}
+use Rattle.formulas.specs.Scopes.{seen}
+use Rattle.formulas.specs.Shapes.{instance-at}
+use Rattle.evaluator.specs.declared.Value.{Value}
+use Rattle.evaluator.specs.declared.Value.the-variants.{False}
+use Rattle.evaluator.specs.declared.Valued.{Valued}
+use Rattle.evaluator.specs.declared.WordAt.{WordAt}
+use Rattle.evaluator.specs.Values.{valued}
+
+-- the formula at a place, with q quantifiers around it: "parameter count k (0 to 4)", so at most 4 + q variables are in reach
+abbrev pub formula-there : ℕ → List ℕ → Scope → ℕ → ℕ → Parsed Formula
+formula-there n s scope q at = when (leb (scope .count) (4 + q)) (formula-at n s (scope .count) q at)
+
+abbrev pub no-value : ℕ → Valued
+no-value at = record { ok = false; value = False; next = at }
+
+abbrev pub value-reply : (Formula → Value) → Parsed Formula → Valued
+value-reply d none = no-value 0
+value-reply d (some f e) = record { ok = true; value = d f; next = e }
+
+-- r is the value of the formula at `at`, where σ gives the value of each instance's word
+pub record ValueReply (σ : ℕ → Value) (s : List ℕ) (at : ℕ) (scope : Scope) (q : ℕ) (r : Valued) : Type 0 where
+  pub on : r .ok ≡ true → at ≤ r .next
+  pub replies : (n : ℕ) → length s ≤ n + at
+      → r ≡ value-reply (λ f. valued f σ (seen scope)) (formula-there n s scope q at)
+
+-- the value of a whole body: that of the formula at its start; false where there is none
+unfoldable pub body-value : (ℕ → Value) → List ℕ → Scope → Value
+body-value σ s scope = valued (found (formula-there (length s) s scope 0 0)) σ (seen scope)
+
+-- the word of an instance, where the variables in reach have the values v
+abbrev pub instance-word : List ℕ → Formula → ℕ
+instance-word v (constant b) = 0
+instance-word v (joined all f g) = 0
+instance-word v (quantified all r f) = 0
+instance-word v (compared t a b) = 0
+instance-word v (instance e ts) = word (e ∷ values ts v)
+
+abbrev pub no-word : WordAt
+no-word = record { ok = false; word = 0; next = 0 }
+
+abbrev pub word-reply : List ℕ → Parsed Formula → WordAt
+word-reply v none = no-word
+word-reply v (some f e) = record { ok = true; word = instance-word v f; next = e }
+
+-- r is the word of the instance whose equation stands at `at`; past the end of the bytes there is none
+pub record WordReply (s : List ℕ) (at : ℕ) (scope : Scope) (r : WordAt) : Type 0 where
+  pub on : r .ok ≡ true → at ≤ r .next
+  pub replies : (n : ℕ) → length s ≤ n + at
+      → r ≡ word-reply (seen scope) (when (leb at (length s)) (instance-at n s (scope .count) at))
