@@ -6,7 +6,6 @@ ghost use Prim.Native.Nat.{_+_, _≤_, _<_, _*_, _-_, _/_};
 ghost use lib.ListN.{length, take, getD};
 ghost use Rattle.answers.specs.Answers.{answer, refusal, room-of, bit, table-after};
 ghost use Rattle.answers.specs.declared.Answer.{Answer};
-ghost use Rattle.formulas.specs.Codes.{kind-of};
 ghost use Rattle.formulas.specs.Scopes.{seen};
 ghost use Rattle.meaning.specs.WordLaws.{arguments-of};
 ghost use Rattle.meaning.specs.Words.{word};
@@ -15,11 +14,11 @@ ghost use Rattle.truth.specs.Bits.{bit-of, nowhere, count-below};
 ghost use Rattle.engine.specs.Decoded.{Decoded};
 ghost use Rattle.engine.specs.Examined.{Judged};
 ghost use Rattle.engine.specs.Found.{model-in, instance-in, left-in, Searchable, Found};
-ghost use Rattle.engine.specs.Gathered.{settled, is-open, GatherMeets, PartsMeet, FoldGathers, OpenMeets, words-left};
-ghost use Rattle.engine.specs.Kept.{stock, Kept};
+ghost use Rattle.engine.specs.Gathered.{settled, is-open, Gatherable, GatherMeets, FoldGathers, OpenMeets, words-left};
+ghost use Rattle.engine.specs.Kept.{filled-of, stock, Kept, Adds};
 ghost use Rattle.engine.specs.Sides.{Ready, is-true, side-of, sides, set-equation, numbered-system, AllReady};
 ghost use Rattle.engine.specs.Solved.{always, solved};
-ghost use Rattle.engine.specs.Stock.{add-one, add};
+ghost use Rattle.engine.specs.Stock.{add};
 use answers::Answer;
 use evaluator::Value;
 use formulas::Equation;
@@ -66,29 +65,32 @@ struct Filled {
     over: bool,
 }
 
-// Adds a word behind those found, unless it is there; where there is no room for it, says so.
-fn add_word(table: &mut [u32], room: usize, s: Filled, w: u32) -> Filled
-    requires { ⌜ (s .count ≤ room) × (room ≤ length (now table)) ⌝ }
-    ensures { λ r. ⌜ Kept room (now (table .entry)) (now (table .exit)) s r × (stock (now (table .exit)) r ≡ add-one room (stock (now (table .entry)) s) w) ⌝ }
+// Where n words are found, one more than there is room: all of the room is filled, and over.
+fn filled_by(room: usize, n: usize) -> Filled
+    ensures { λ r. ⌜ r ≡ filled-of room n ⌝ }
 {
-    if s.over {
-        return s;
+    Filled {
+        count: digits::smaller(n, room),
+        over: room < n,
     }
-    let n = s.count;
+}
+
+// Adds a word behind the n found, unless it is there, and gives their number then: one more than the room, where there is none for it.
+fn add_word(table: &mut [u32], room: usize, n: usize, w: u32) -> usize
+    requires { ⌜ (n ≤ room + 1) × (room ≤ length (now table)) ⌝ }
+    ensures { λ r. ⌜ Adds room (now (table .entry)) (now (table .exit)) n r w ⌝ }
+{
+    if room < n {
+        return n;
+    }
     if evaluator::lookup(&table[..n], w) < n {
-        return s;
+        return n;
     }
     if room <= n {
-        return Filled {
-            count: n,
-            over: true,
-        };
+        return n + 1;
     }
     table[n] = w;
-    Filled {
-        count: n + 1,
-        over: false,
-    }
+    n + 1
 }
 
 // ---- gathering
@@ -109,20 +111,6 @@ fn is_open(value: Value) -> bool
     }
 }
 
-// Whether something is left of the formula at a place, where nothing is known of any instance.
-fn opened(body: &[u8], at: usize, scope: Scope) -> Openness
-    ensures { λ r. ⌜ OpenMeets (now (body .entry)) at scope (r .left) (r .next) ⌝ }
-{
-    let table = [0u32; 1];
-    let truth = truth::none();
-    let v = evaluator::value_at(body, at, scope, &table[..0], &truth);
-    let value = v.value;
-    Openness {
-        left: is_open(value),
-        next: v.next,
-    }
-}
-
 fn alike(a: bool, b: bool) -> bool
     ensures { λ r. ⌜ r ≡ Bool·beq a b ⌝ }
 {
@@ -138,121 +126,150 @@ fn is_settled(kind: Kind, within: bool, all: bool) -> bool
         Kind::Constant(_) => true,
         Kind::Join(joins) => digits::and(within, alike(joins, all)),
         Kind::Quantifier(joins) => digits::and(within, alike(joins, all)),
-        Kind::Compare(_) => true,
+        Kind::Compare(_) => false,
         Kind::Instance => true,
     }
 }
 
-struct Gathered {
-    filled: Filled,
-    next: usize,
+// Whether something may be left of the formula of this kind at a place, and where it ends where nothing is: it is settled, or
+// its value is open where nothing is known of any instance. `none` is any set: an empty table asks nothing of it.
+fn opened(
+    body: &[u8],
+    at: usize,
+    scope: Scope,
+    q: u8,
+    kind: Kind,
+    within: bool,
+    all: bool,
+    none: &[u64; 8],
+) -> Openness
+    requires { ⌜ scope .count ≤ 4 + q ⌝ }
+    ensures { λ r. ⌜ OpenMeets (now (body .entry)) at scope q kind within all (r .left) (r .next) ⌝ }
+{
+    if is_settled(kind, within, all) {
+        return Openness {
+            left: true,
+            next: at,
+        };
+    }
+    let table = [0u32; 1];
+    let v = evaluator::value_at(body, at, scope, q, &table[..0], none);
+    let value = v.value;
+    if v.ok {
+        Openness {
+            left: is_open(value),
+            next: v.next,
+        }
+    } else {
+        Openness {
+            left: false,
+            next: at,
+        }
+    }
 }
 
-// Adds the instances that are left in the formula at a place. Where it stands within a connective that nothing decides, `all` says which.
+// Adds the instances that are left in the formula at a place to the words found, and gives the place after it.
+// Where it stands within a connective that nothing decides, `all` says which.
 fn gather(
     body: &[u8],
     at: usize,
     scope: Scope,
+    q: u8,
     within: bool,
     all: bool,
     table: &mut [u32],
     room: usize,
-    s: Filled,
-) -> Gathered
-    requires { ⌜ (s .count ≤ room) × (room ≤ length (now table)) ⌝ }
-    ensures { λ r. ⌜ GatherMeets room (now (body .entry)) at scope within all (now (table .entry)) (now (table .exit)) s (r .filled) (r .next) ⌝ }
+    none: &[u64; 8],
+    found: &mut usize,
+) -> usize
+    requires { ⌜ Gatherable scope q room (now table) (now found) ⌝ }
+    ensures { λ r. ⌜ GatherMeets room (now (body .entry)) at scope q within all (now (table .entry)) (now (table .exit)) (now (found .entry)) (now (found .exit)) r ⌝ }
 {
     if body.len() <= at {
-        return Gathered {
-            filled: s,
-            next: at,
-        };
+        return at;
     }
-    let kind = formulas::kind_of(evaluator::byte(body, at));
-    if is_settled(kind, within, all) {
-        return gather_parts(body, at, scope, kind, table, room, s);
+    let kind = formulas::kind_of(digits::element(body, at));
+    let o = opened(body, at, scope, q, kind, within, all, none);
+    if !o.left {
+        return o.next;
     }
-    let o = opened(body, at, scope);
-    if o.left {
-        return gather_parts(body, at, scope, kind, table, room, s);
-    }
-    Gathered {
-        filled: s,
-        next: o.next,
-    }
-}
-
-// The same for a formula of this kind whose connective nothing decides.
-fn gather_parts(
-    body: &[u8],
-    at: usize,
-    scope: Scope,
-    kind: Kind,
-    table: &mut [u32],
-    room: usize,
-    s: Filled,
-) -> Gathered
-    requires { ⌜ (s .count ≤ room) × (room ≤ length (now table)) × (at < length (now body)) × (kind ≡ kind-of (getD (now body) at 0)) ⌝ }
-    ensures { λ r. ⌜ PartsMeet room (now (body .entry)) at scope kind (now (table .entry)) (now (table .exit)) s (r .filled) (r .next) ⌝ }
-{
     let next = at + 1;
     match kind {
-        Kind::NoFormula => Gathered {
-            filled: s,
-            next: at,
-        },
-        Kind::Constant(_) => Gathered { filled: s, next },
-        Kind::Compare(_) => {
-            let o = opened(body, at, scope);
-            Gathered {
-                filled: s,
-                next: o.next,
+        Kind::NoFormula => at,
+        Kind::Constant(_) => next,
+        Kind::Compare(_) => next,
+        Kind::Join(joins) => {
+            let m = gather(body, next, scope, q, true, joins, table, room, none, found);
+            gather(body, m, scope, q, true, joins, table, room, none, found)
+        }
+        Kind::Quantifier(joins) => {
+            let range = digits::element(body, next);
+            if 4 <= q {
+                return at;
             }
-        }
-        Kind::Join(all) => {
-            let a = gather(body, next, scope, true, all, table, room, s);
-            let m = a.next;
-            let f = a.filled;
-            gather(body, m, scope, true, all, table, room, f)
-        }
-        Kind::Quantifier(all) => {
-            let range = evaluator::byte(body, next);
-            let there = at + 2;
-            gather_fold(body, there, scope, all, 0, range, table, room, s)
+            gather_fold(
+                body,
+                at + 2,
+                scope,
+                q,
+                joins,
+                0,
+                range,
+                table,
+                room,
+                none,
+                found,
+            )
         }
         Kind::Instance => {
             let i = evaluator::word_at(body, next, scope);
-            let f = add_word(table, room, s, i.word);
-            Gathered {
-                filled: f,
-                next: i.next,
+            if !i.ok {
+                return at;
             }
+            let n = *found;
+            let m = add_word(table, room, n, i.word);
+            *found = m;
+            i.next
         }
     }
 }
 
-// The same for a formula at the values x, x + 1, .. of a quantified variable, `more` of them.
+// The same for a formula at the values x, x + 1, .. of a quantified variable, `more` of them, by halves.
 fn gather_fold(
     body: &[u8],
     at: usize,
     scope: Scope,
+    q: u8,
     all: bool,
     x: u8,
     more: u8,
     table: &mut [u32],
     room: usize,
-    s: Filled,
-) -> Gathered
-    requires { ⌜ (s .count ≤ room) × (room ≤ length (now table)) × (x + more ≤ 255) ⌝ }
-    ensures { λ r. ⌜ FoldGathers room (now (body .entry)) at scope all x more (now (table .entry)) (now (table .exit)) s (r .filled) (r .next) ⌝ }
+    none: &[u64; 8],
+    found: &mut usize,
+) -> usize
+    requires { ⌜ Gatherable scope q room (now table) (now found) × ((q < 4) × (x + more ≤ 255)) ⌝ }
+    ensures { λ r. ⌜ FoldGathers room (now (body .entry)) at scope q all x more (now (table .entry)) (now (table .exit)) (now (found .entry)) (now (found .exit)) r ⌝ }
 {
-    let inner = formulas::push(scope, x);
-    let a = gather(body, at, inner, true, all, table, room, s);
     if more <= 1 {
-        return a;
+        let inner = formulas::push(scope, x);
+        return gather(body, at, inner, q + 1, true, all, table, room, none, found);
     }
-    let f = a.filled;
-    gather_fold(body, at, scope, all, x + 1, more - 1, table, room, f)
+    let half = more / 2;
+    gather_fold(body, at, scope, q, all, x, half, table, room, none, found);
+    gather_fold(
+        body,
+        at,
+        scope,
+        q,
+        all,
+        x + half,
+        more - half,
+        table,
+        room,
+        none,
+        found,
+    )
 }
 
 // Adds the instances that are left in the right side of the instance with the word w.
@@ -264,7 +281,7 @@ fn gather_side(
     room: usize,
     s: Filled,
 ) -> Filled
-    requires { ⌜ Ready (now bodies) equations w × (s .count ≤ room) × (room ≤ length (now table)) ⌝ }
+    requires { ⌜ Ready (now bodies) equations w × (s .count ≤ room) × (room ≤ length (now table)) × (s .over ≡ false) ⌝ }
     ensures { λ r. ⌜ Kept room (now (table .entry)) (now (table .exit)) s r × (stock (now (table .exit)) r ≡ add room (stock (now (table .entry)) s) (words-left (left-in (now (bodies .entry)) equations w))) ⌝ }
 {
     let e = (w / 65536) as usize;
@@ -273,8 +290,21 @@ fn gather_side(
     let first = e * 256;
     let end = first + equation.length;
     let scope = scope_of(w, k);
-    let a = gather(&bodies[first..end], 0, scope, false, false, table, room, s);
-    a.filled
+    let none = truth::none();
+    let mut found = s.count;
+    gather(
+        &bodies[first..end],
+        0,
+        scope,
+        0,
+        false,
+        false,
+        table,
+        room,
+        &none,
+        &mut found,
+    );
+    filled_by(room, found)
 }
 
 // Finds the reached instances from the one with the word `start`, in order, at most `room` of them.
