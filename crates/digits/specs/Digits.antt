@@ -2,9 +2,9 @@
 -- "Lines of hexadecimal .. Digits are 0-9 and a-f, two a byte, no blanks."
 use Prim.Native.Nat.{ℕ, zero, suc, _+_, _-_, _*_, _/_, _%_}
 use mathlib.Core.Bool.{Bool, cond, _&&_}
-use mathlib.Core.List.{List, [], _∷_}
+use mathlib.Core.List.{List, [], _∷_, _++_}
 use lib.Dec.{leb}
-use lib.ListN.{getD}
+use lib.ListN.{getD, take, replicate}
 
 -- "The digit's worth of every byte value comes from a table of 256 entries, 255 for what is no digit"
 abbrev pub worth-of : ℕ → ℕ
@@ -25,6 +25,10 @@ byte-at t p = pair-of (worth-of (getD t p 0)) (worth-of (getD t (p + 1) 0))
 unfoldable pub bytes-at : List ℕ → ℕ → ℕ → List ℕ
 bytes-at t p zero = []
 bytes-at t p (suc n) = byte-at t p ∷ bytes-at t (p + 2) n
+
+-- the first 256 of those bytes, with zeros after them where there are fewer
+unfoldable pub padded-at : List ℕ → ℕ → ℕ → List ℕ
+padded-at t p n = take 256 (bytes-at t p n ++ replicate 256 0)
 
 -- "Text newly made has small letters only": the digit that is worth n; 0, which is no digit, where n is over 15
 abbrev pub digit-of : ℕ → ℕ

@@ -3,7 +3,7 @@ ghost use mathlib.Core.Path.{_≡_};
 ghost use mathlib.Core.Bool.{_&&_};
 ghost use Prim.Native.Nat.{_<_, min};
 ghost use lib.ListN.{getD};
-ghost use Rattle.digits.specs.Digits.{worth-of, pair-of, byte-at, bytes-at, digit-of};
+ghost use Rattle.digits.specs.Digits.{worth-of, pair-of, byte-at, bytes-at, padded-at, digit-of};
 
 const WORTHS: [u8; 256] = [
     255,
@@ -341,6 +341,20 @@ pub fn byte(text: &[u8], place: usize, size: usize, i: usize) -> u8
     }
     let there = place + 2 * i;
     byte_at(text, there)
+}
+
+// The first 256 of the `size` bytes whose digits start at `place`, with zeros after them where there are fewer.
+pub fn bytes_at(text: &[u8], place: usize, size: usize) -> [u8; 256]
+    ensures { λ r. ⌜ r ≡ padded-at (now (text .entry)) place size ⌝ }
+{
+    let mut list = [0u8; 256];
+    let count = smaller(size, 256);
+    let mut i: usize = 0;
+    while i < count {
+        list[i] = byte(text, place, size, i);
+        i += 1;
+    }
+    list
 }
 
 // The small digit that is worth n; 0, which is no digit, where n is over 15.
