@@ -53,11 +53,12 @@ module _ (t : List ℕ) (e : Equation) (equations : List Equation) (count : ℕ)
   unfolding body-at
   body-long h = told-unless _ _ (lt-leb (e .length) 256 h)
 
-  pub body-read : {known k : ℕ} {rs : List ℕ} {ok : Bool} → e .length ≤ 256 → length equations ≡ 8 → known ≡ min count 8 → rs ≡ ranges-of e → k ≡ length (ranges-of e)
-      → Told (λ f. fits (signatures-of equations known) f rs) v m (formula-at (e .length) (bytes-at t (e .place) (e .length)) k 0 0) ok
+  pub body-read : {sigs : List (List ℕ)} {s rs : List ℕ} {k : ℕ} {ok : Bool} → e .length ≤ 256
+      → sigs ≡ signatures-of equations count → s ≡ bytes-at t (e .place) (e .length) → rs ≡ ranges-of e → k ≡ length (ranges-of e)
+      → Told (λ f. fits sigs f rs) v m (formula-at (e .length) s k 0 0) ok
       → Told (λ f. fits (signatures-of equations count) f (ranges-of e)) v m (body-at t e) ok
   unfolding body-at
-  body-read l h c er ek p = told-when _ (le-leb (e .length) 256 l) (rw (c, take-most equations count 8 h (leb count 8) refl, er, ek) at p)
+  body-read l es eb er ek p = told-when _ (le-leb (e .length) 256 l) (rw (es, eb, er, ek) at p)
 
   pub fitting-found : Told (λ f. fits (signatures-of equations count) f (ranges-of e)) v m (body-at t e) true → v ≡ is-fitting equations count t e
   unfolding is-fitting

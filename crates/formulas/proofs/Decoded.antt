@@ -26,7 +26,7 @@ pub data Every {A : Type 0} (P : A → Type 0) : Parsed A → Type 0 where
   unread : Every P none
   each : {a : A} {e : ℕ} → P a → Every P (some a e)
 
-every-then : {A B : Type 0} {P : A → Type 0} {Q : B → Type 0} {p : Parsed A} (k : A → ℕ → Parsed B) → Every P p → ((a : A) (e : ℕ) → P a → Every Q (k a e)) → Every Q (then p k)
+pub every-then : {A B : Type 0} {P : A → Type 0} {Q : B → Type 0} {p : Parsed A} (k : A → ℕ → Parsed B) → Every P p → ((a : A) (e : ℕ) → P a → Every Q (k a e)) → Every Q (then p k)
 every-then k unread f = unread
 every-then k (each {a} {e} h) f = f a e h
 

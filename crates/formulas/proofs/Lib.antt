@@ -1,6 +1,8 @@
 pub mod Told
 pub mod ByKind
-pub mod Terms
-pub mod Laws
+pub mod Columns
 pub mod Bodies
+pub mod Signatures
 pub mod Decoded
+pub mod Terms
+pub mod Formulas

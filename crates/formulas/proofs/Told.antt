@@ -2,7 +2,7 @@
 -- By cases on what was told; where there is a byte the decoder is deep enough for one step.
 use Prim.Native.Nat.{ℕ, zero, suc, _+_, _≤_, _<_}
 use native.Mathlib.Omega.{arith}
-use mathlib.Core.Path.{_≡_, refl, sym, ap, _∙_}
+use mathlib.Core.Path.{_≡_, refl}
 use mathlib.Core.Bool.{Bool, true, false, _&&_}
 use mathlib.Core.List.{List}
 use lib.Dec.{eqb}
@@ -13,19 +13,10 @@ use Rattle.formulas.specs.Decode.{Parsed, some, then, when}
 use Rattle.formulas.specs.Bodies.{found, ends}
 use Rattle.formulas.specs.Contract.{Told, refused, told}
 
--- what a function says of the byte that was read, it says of the byte that stands there
-pub of-byte : {A : Type 0} (f : ℕ → A) {read there : ℕ} {x y : A} → read ≡ there → x ≡ f read → x ≡ y → f there ≡ y
-of-byte f b e k = ap f (sym b) ∙ sym e ∙ k
-
 pub and-same : (a b : Bool) → a && b ≡ a and b
 unfolding _and_
 and-same true b = refl
 and-same false b = refl
-
-pub and-true : (a : Bool) → a and true ≡ a
-unfolding _and_
-and-true true = refl
-and-true false = refl
 
 pub told-then : {A B C D : Type 0} {d : A → C} {d′ : B → D} {p : Parsed A} {v : C} {w : D} {m e : ℕ} {ok : Bool} (k : A → ℕ → Parsed B)
     → Told d v m p true → ((a : A) → v ≡ d a → Told d′ w e (k a m) ok) → Told d′ w e (then p k) ok
@@ -45,10 +36,6 @@ module _ {A B : Type 0} {d : A → B} {v : B} {e : ℕ} where
 
   pub told-unless : (p : Parsed A) (b : Bool) → b ≡ false → Told d v e (when b p) false
   told-unless p b h = rw h refused
-
-  pub told-flag : (a : A) (b : Bool) → v ≡ d a → Told d v e (when b (some a e)) b
-  told-flag a true q = told q
-  told-flag a false q = refused
 
 -- what is told of one reading may be said in other words; two things told of one reading go together
 pub told-map : {A B C : Type 0} {d : A → B} {c : A → C} {p : Parsed A} {v : B} {w : C} {e : ℕ} {ok : Bool}

@@ -5,7 +5,6 @@ use mathlib.Core.Bool.{true, false, cond}
 use mathlib.Core.List.{List, [], _∷_}
 use lib.Dec.{leb}
 use lib.ListN.{getD}
-use Rattle.formulas.specs.declared.Row.{Row}
 use Rattle.formulas.specs.declared.Kind.{Kind}
 use Rattle.formulas.specs.declared.Kind.the-variants.{NoFormula, Constant, Join, Quantifier, Compare, Instance}
 use Rattle.formulas.specs.declared.TermKind.{TermKind}
@@ -13,6 +12,11 @@ use Rattle.formulas.specs.declared.TermKind.the-variants.{NoTerm, Number
 use Rattle.formulas.specs.declared.Test.the-variants.{Equal, Less, Unequal, NotLess}
 
 -- what a code begins, as a formula and as a term, and how many operands come after it
+pub record Row : Type 0 where
+  pub formula : Kind
+  pub term : TermKind
+  pub operands : ℕ
+
 abbrev pub row : Kind → TermKind → ℕ → Row
 row formula term operands = record { formula = formula; term = term; operands = operands }
 

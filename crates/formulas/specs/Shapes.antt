@@ -9,13 +9,12 @@ use lib.Dec.{T, eqb, eqb→eq, ltb, leb}
 use lib.ListN.{getD}
 use Rattle.meaning.specs.Formulas.{number, variable, calculated, Formula, constant, joined, quantified, compared, instance}
 use Rattle.meaning.specs.Ranges.{is-range}
-use Rattle.formulas.specs.declared.Row.{Row}
 use Rattle.formulas.specs.declared.Kind.{Kind}
 use Rattle.formulas.specs.declared.Kind.the-variants.{NoFormula, Constant, Join, Quantifier, Compare, Instance}
 use Rattle.formulas.specs.declared.TermKind.{TermKind}
 use Rattle.formulas.specs.declared.TermKind.the-variants.{NoTerm, Number, Variable, Calculation}
 use Rattle.formulas.specs.declared.Test.{Test}
-use Rattle.formulas.specs.Codes.{rows, no-row, row-of, kind-of, term-kind-of, operands-of}
+use Rattle.formulas.specs.Codes.{Row, rows, no-row, row-of, kind-of, term-kind-of, operands-of}
 use Rattle.formulas.specs.Decode.{Parsed, none, some, then, when, in-row, test-of, term-of-kind, term-at, terms-at, formula-of-kind, formula-at}
 
 -- ---- how many operands a code has, by its kind

@@ -3,13 +3,13 @@ ghost use mathlib.Core.Bool.{true, false};
 ghost use mathlib.Core.Path.{_≡_};
 ghost use mathlib.Core.List.{[], _∷_, _++_};
 ghost use Prim.Native.Nat.{_+_, _≤_, _<_};
-ghost use lib.ListN.{length, drop, getD};
+ghost use lib.ListN.{length, getD};
 ghost use Rattle.meaning.specs.Ranges.{is-range, fits};
-ghost use Rattle.digits.specs.Digits.{bytes-at};
-ghost use Rattle.formulas.specs.Codes.{row-of, kind-of, term-kind-of, operands-of};
+ghost use Rattle.formulas.specs.Codes.{kind-of, term-kind-of, operands-of};
 ghost use Rattle.formulas.specs.Scopes.{seen, pushed};
-ghost use Rattle.formulas.specs.Bodies.{blank, ranges-of, signatures-of, body-at, is-body, is-fitting};
-ghost use Rattle.formulas.specs.Contract.{Told, TermTold, TermsTold, InstanceTold, FormulaTold, FormulasTold};
+ghost use Rattle.formulas.specs.Bodies.{ranges-of, signatures-of, body-at, is-body, is-fitting};
+ghost use Rattle.formulas.specs.Contract.{kind-numbered, term-kind-numbered, part, signature-byte, signatures-in};
+ghost use Rattle.formulas.specs.Contract.{Told, TermTold, ArgumentsTold, InstanceTold, FormulaTold};
 
 // An equation's record. Absent ranges are 1; `place` is that of the body's first digit in the text, `length` the body's in bytes.
 pub struct Equation {
@@ -45,127 +45,37 @@ pub enum TermKind {
     Calculation(bool),
 }
 
-// What a code begins, as a formula and as a term, and how many operands come after it.
-pub struct Row {
-    pub formula: Kind,
-    pub term: TermKind,
-    pub operands: u8,
-}
-
-// The codes from 10 to 23.
-const ROWS: [Row; 20] = [
-    Row {
-        formula: Kind::Constant(false),
-        term: TermKind::NoTerm,
-        operands: 0,
-    },
-    Row {
-        formula: Kind::Constant(true),
-        term: TermKind::NoTerm,
-        operands: 0,
-    },
-    Row {
-        formula: Kind::Join(true),
-        term: TermKind::NoTerm,
-        operands: 2,
-    },
-    Row {
-        formula: Kind::Join(false),
-        term: TermKind::NoTerm,
-        operands: 2,
-    },
-    Row {
-        formula: Kind::Quantifier(true),
-        term: TermKind::NoTerm,
-        operands: 2,
-    },
-    Row {
-        formula: Kind::Quantifier(false),
-        term: TermKind::NoTerm,
-        operands: 2,
-    },
-    Row {
-        formula: Kind::Compare(Test::Equal),
-        term: TermKind::NoTerm,
-        operands: 2,
-    },
-    Row {
-        formula: Kind::Compare(Test::Less),
-        term: TermKind::NoTerm,
-        operands: 2,
-    },
-    Row {
-        formula: Kind::Compare(Test::Unequal),
-        term: TermKind::NoTerm,
-        operands: 2,
-    },
-    Row {
-        formula: Kind::Compare(Test::NotLess),
-        term: TermKind::NoTerm,
-        operands: 2,
-    },
-    Row {
-        formula: Kind::Instance,
-        term: TermKind::NoTerm,
-        operands: 2,
-    },
-    Row {
-        formula: Kind::NoFormula,
-        term: TermKind::NoTerm,
-        operands: 0,
-    },
-    Row {
-        formula: Kind::NoFormula,
-        term: TermKind::NoTerm,
-        operands: 0,
-    },
-    Row {
-        formula: Kind::NoFormula,
-        term: TermKind::NoTerm,
-        operands: 0,
-    },
-    Row {
-        formula: Kind::NoFormula,
-        term: TermKind::NoTerm,
-        operands: 0,
-    },
-    Row {
-        formula: Kind::NoFormula,
-        term: TermKind::NoTerm,
-        operands: 0,
-    },
-    Row {
-        formula: Kind::NoFormula,
-        term: TermKind::Number,
-        operands: 1,
-    },
-    Row {
-        formula: Kind::NoFormula,
-        term: TermKind::Variable,
-        operands: 1,
-    },
-    Row {
-        formula: Kind::NoFormula,
-        term: TermKind::Calculation(true),
-        operands: 3,
-    },
-    Row {
-        formula: Kind::NoFormula,
-        term: TermKind::Calculation(false),
-        operands: 3,
-    },
+// Of each code from 10 to 23 the number of its kind; 0 for what begins neither a formula nor a term.
+const KINDS: [u8; 20] = [
+    1,
+    2,
+    3,
+    4,
+    5,
+    6,
+    7,
+    8,
+    9,
+    10,
+    11,
+    0,
+    0,
+    0,
+    0,
+    0,
+    12,
+    13,
+    14,
+    15,
 ];
+
+// Of each code from 10 to 23 how many operands come after it.
+const OPERANDS: [u8; 20] = [0, 0, 2, 2, 2, 2, 2, 2, 2, 2, 2, 0, 0, 0, 0, 0, 1, 1, 3, 3];
 
 // The variables in reach: the first `count` of `values`.
 pub struct Scope {
     pub values: [u8; 8],
     pub count: usize,
-}
-
-// Where the bytes of a body stand: the place of the first digit, and how many bytes there are.
-struct Body {
-    place: usize,
-    size: usize,
 }
 
 // Whether a term was read, its range, and where it ends.
@@ -175,50 +85,70 @@ struct TermSpan {
     next: usize,
 }
 
-// Whether a formula was read, or some formulas or terms in a row; whether the instances in it fit, or the terms as arguments; where it ends.
+// Whether a formula was read, or some arguments in a row; whether the instances in it fit, or the arguments; where it ends.
 struct Span {
     ok: bool,
     fits: bool,
     next: usize,
 }
 
-fn row_of(code: u8) -> Row
-    ensures { λ r. ⌜ r ≡ row-of code ⌝ }
+fn number_of(code: u8) -> u8
+    ensures { λ r. ⌜ (kind-numbered r ≡ kind-of code) × (term-kind-numbered r ≡ term-kind-of code) ⌝ }
 {
-    let none = Row {
-        formula: Kind::NoFormula,
-        term: TermKind::NoTerm,
-        operands: 0,
-    };
     if code < 0x10 {
-        return none;
+        return 0;
     }
     if 0x23 < code {
-        return none;
+        return 0;
     }
     let i = digits::wide(code - 0x10);
-    ROWS[i]
+    KINDS[i]
 }
 
 pub fn kind_of(code: u8) -> Kind
     ensures { λ r. ⌜ r ≡ kind-of code ⌝ }
 {
-    let row = row_of(code);
-    row.formula
+    let n = number_of(code);
+    match n {
+        1 => Kind::Constant(false),
+        2 => Kind::Constant(true),
+        3 => Kind::Join(true),
+        4 => Kind::Join(false),
+        5 => Kind::Quantifier(true),
+        6 => Kind::Quantifier(false),
+        7 => Kind::Compare(Test::Equal),
+        8 => Kind::Compare(Test::Less),
+        9 => Kind::Compare(Test::Unequal),
+        10 => Kind::Compare(Test::NotLess),
+        11 => Kind::Instance,
+        _ => Kind::NoFormula,
+    }
 }
 
 pub fn term_kind_of(code: u8) -> TermKind
     ensures { λ r. ⌜ r ≡ term-kind-of code ⌝ }
 {
-    let row = row_of(code);
-    row.term
+    let n = number_of(code);
+    match n {
+        12 => TermKind::Number,
+        13 => TermKind::Variable,
+        14 => TermKind::Calculation(true),
+        15 => TermKind::Calculation(false),
+        _ => TermKind::NoTerm,
+    }
 }
 
 pub fn operands_of(code: u8) -> u8
     ensures { λ r. ⌜ r ≡ operands-of code ⌝ }
 {
-    let row = row_of(code);
-    row.operands
+    if code < 0x10 {
+        return 0;
+    }
+    if 0x23 < code {
+        return 0;
+    }
+    let i = digits::wide(code - 0x10);
+    OPERANDS[i]
 }
 
 // One more variable in reach, after those that are there.
@@ -264,18 +194,16 @@ fn result(ok: bool, fits: bool, next: usize) -> Span
 }
 
 // The term at `at` of a body.
-fn read_term(text: &[u8], body: Body, at: usize, scope: Scope) -> TermSpan
-    requires { ⌜ (body .size ≤ 256) × (scope .count ≤ 8) ⌝ }
-    ensures { λ r. ⌜ TermTold (bytes-at (now (text .entry)) (body .place) (body .size)) scope at (r .ok) (r .range) (r .next) ⌝ }
+fn read_term(body: &[u8], at: usize, scope: Scope) -> TermSpan
+    requires { ⌜ length (now body) ≤ 256 ⌝ }
+    ensures { λ r. ⌜ TermTold (now (body .entry)) scope at (r .ok) (r .range) (r .next) ⌝ }
 {
-    if body.size <= at {
+    if body.len() <= at {
         return term_result(false, 0, at);
     }
-    let code = digits::byte(text, body.place, body.size, at);
-    let x = digits::byte(text, body.place, body.size, at + 1);
-    let operands = operands_of(code);
-    let after = 1 + digits::wide(operands);
-    let next = at + after;
+    let code = digits::element(body, at);
+    let x = digits::element(body, at + 1);
+    let next = at + (1 + digits::wide(operands_of(code)));
     let kind = term_kind_of(code);
     match kind {
         TermKind::NoTerm => term_result(false, 0, at),
@@ -286,50 +214,123 @@ fn read_term(text: &[u8], body: Body, at: usize, scope: Scope) -> TermSpan
             term_result(true, x + 1, next)
         }
         TermKind::Variable => {
-            let i = digits::wide(x);
-            term_result(i < scope.count, variable(scope, x), next)
+            if scope.count <= digits::wide(x) {
+                return term_result(false, 0, at);
+            }
+            term_result(true, variable(scope, x), next)
         }
         TermKind::Calculation(_) => {
             if !is_range(x) {
                 return term_result(false, 0, at);
             }
-            let a = read_terms(text, body, at + 2, scope, operands - 1, scope, 0);
-            term_result(a.ok, x, a.next)
+            let a = read_term(body, at + 2, scope);
+            let m = a.next;
+            if !a.ok {
+                return term_result(false, 0, m);
+            }
+            let b = read_term(body, m, scope);
+            term_result(b.ok, x, b.next)
         }
     }
 }
 
-// c terms in a row, as arguments for the parameters of a signature from number j on.
-fn read_terms(
-    text: &[u8],
-    body: Body,
+// c terms in a row, as arguments for the parameters whose ranges stand from `j` on.
+fn read_arguments(
+    body: &[u8],
     at: usize,
     scope: Scope,
     c: u8,
-    signature: Scope,
-    j: u8,
+    signatures: &[u8; 41],
+    j: usize,
+    fits: bool,
 ) -> Span
-    requires { ⌜ (body .size ≤ 256) × ((scope .count ≤ 8) × ((signature .count ≤ 8) × (j + c ≤ 255))) ⌝ }
-    ensures { λ r. ⌜ TermsTold (drop j (seen signature)) c (bytes-at (now (text .entry)) (body .place) (body .size)) scope at (r .ok) (r .fits) (r .next) ⌝ }
+    requires { ⌜ (length (now body) ≤ 256) × (j + c ≤ 1279) ⌝ }
+    ensures { λ r. ⌜ ArgumentsTold fits (part (now (signatures .entry)) j c) c (now (body .entry)) scope at (r .ok) (r .fits) (r .next) ⌝ }
 {
-    let i = digits::wide(j);
     if c == 0 {
-        return result(true, signature.count <= i, at);
+        return result(true, fits, at);
     }
-    let a = read_term(text, body, at, scope);
+    let a = read_term(body, at, scope);
     let m = a.next;
     if !a.ok {
         return result(false, false, m);
     }
-    let b = read_terms(text, body, m, scope, c - 1, signature, j + 1);
-    let p = variable(signature, j);
-    let rest = digits::and(a.range <= p, b.fits);
-    let fits = digits::and(i < signature.count, rest);
-    result(b.ok, fits, b.next)
+    let fit = a.range <= digits::element(signatures, j);
+    read_arguments(
+        body,
+        m,
+        scope,
+        c - 1,
+        signatures,
+        j + 1,
+        digits::and(fits, fit),
+    )
+}
+
+// The instance whose equation and number of arguments stand at `at` and whose arguments start at `first`.
+fn read_instance(body: &[u8], at: usize, first: usize, scope: Scope, signatures: &[u8; 41]) -> Span
+    requires { ⌜ (length (now body) ≤ 256) × ((at ≤ length (now body)) × (first ≡ at + 2)) ⌝ }
+    ensures { λ r. ⌜ InstanceTold (signatures-in (now (signatures .entry))) (now (body .entry)) scope at (r .ok) (r .fits) (r .next) ⌝ }
+{
+    let x = digits::wide(digits::element(body, at));
+    let c = digits::element(body, at + 1);
+    if 4 < c {
+        return result(false, false, at);
+    }
+    let count = digits::wide(digits::element(signatures, 40));
+    let k = digits::element(signatures, 5 * x + 4);
+    let named = digits::and(x < count, c == k);
+    read_arguments(body, first, scope, c, signatures, 5 * x, named)
+}
+
+// The formula at `at`, with q quantifiers around it; `scope` has the ranges of the variables in reach.
+fn read_formula(body: &[u8], at: usize, scope: Scope, q: usize, signatures: &[u8; 41]) -> Span
+    requires { ⌜ (length (now body) ≤ 256) × ((scope .count ≤ 4 + q) × (q ≤ 4)) ⌝ }
+    ensures { λ r. ⌜ FormulaTold (signatures-in (now (signatures .entry))) (now (body .entry)) scope q at (r .ok) (r .fits) (r .next) ⌝ }
+{
+    if body.len() <= at {
+        return result(false, false, at);
+    }
+    let code = digits::element(body, at);
+    let next = at + (1 + digits::wide(operands_of(code)));
+    let kind = kind_of(code);
+    match kind {
+        Kind::NoFormula => result(false, false, at),
+        Kind::Constant(_) => result(true, true, next),
+        Kind::Join(_) => {
+            let a = read_formula(body, at + 1, scope, q, signatures);
+            let m = a.next;
+            if !a.ok {
+                return result(false, false, m);
+            }
+            let b = read_formula(body, m, scope, q, signatures);
+            result(b.ok, digits::and(a.fits, b.fits), b.next)
+        }
+        Kind::Quantifier(_) => {
+            if 4 <= q {
+                return result(false, false, at);
+            }
+            let r = digits::element(body, at + 1);
+            if !is_range(r) {
+                return result(false, false, at);
+            }
+            read_formula(body, at + 2, push(scope, r), q + 1, signatures)
+        }
+        Kind::Compare(_) => {
+            let a = read_term(body, at + 1, scope);
+            let m = a.next;
+            if !a.ok {
+                return result(false, false, m);
+            }
+            let b = read_term(body, m, scope);
+            result(b.ok, true, b.next)
+        }
+        Kind::Instance => read_instance(body, at + 1, next, scope, signatures),
+    }
 }
 
 // The ranges of an equation's parameters.
-fn signature_of(e: Equation) -> Scope
+fn parameters_of(e: Equation) -> Scope
     ensures { λ r. ⌜ (seen r ≡ ranges-of e) × ((r .count ≡ length (ranges-of e)) × (r .count ≤ 4)) ⌝ }
 {
     let r = e.ranges;
@@ -338,131 +339,43 @@ fn signature_of(e: Equation) -> Scope
     Scope { values, count }
 }
 
-// One of the equations; where there is no such number, any.
-fn nth(equations: [Equation; 8], i: usize) -> Equation
-    ensures { λ r. ⌜ (i < 8 → r ≡ getD equations i blank) ⌝ }
+// Of an equation's five bytes number i: its four ranges, then how many of them are parameters'.
+fn signature_byte(e: Equation, i: usize) -> u8
+    ensures { λ r. ⌜ (r ≡ signature-byte e i) × (length (e .ranges) ≡ 4) ⌝ }
 {
-    if i < 8 { equations[i] } else { equations[0] }
-}
-
-// The instance whose code stands at `at` and whose arguments start at `first`.
-fn read_instance(
-    text: &[u8],
-    body: Body,
-    at: usize,
-    first: usize,
-    scope: Scope,
-    equations: [Equation; 8],
-    count: usize,
-) -> Span
-    requires { ⌜ (body .size ≤ 256) × ((at ≤ body .size) × ((at ≤ first) × ((scope .count ≤ 8) × (count ≤ 8)))) ⌝ }
-    ensures { λ r. ⌜ InstanceTold (signatures-of equations count) (bytes-at (now (text .entry)) (body .place) (body .size)) scope at first (r .ok) (r .fits) (r .next) ⌝ }
-{
-    let x = digits::wide(digits::byte(text, body.place, body.size, at + 1));
-    let c = digits::byte(text, body.place, body.size, at + 2);
-    if 4 < c {
-        return result(false, false, at);
-    }
-    let signature = signature_of(nth(equations, x));
-    let a = read_terms(text, body, first, scope, c, signature, 0);
-    let fits = digits::and(x < count, a.fits);
-    result(a.ok, fits, a.next)
-}
-
-// The formula at `at`, with q quantifiers around it; `scope` has the ranges of the variables in reach.
-fn read_formula(
-    text: &[u8],
-    body: Body,
-    at: usize,
-    scope: Scope,
-    q: usize,
-    equations: [Equation; 8],
-    count: usize,
-) -> Span
-    requires { ⌜ (body .size ≤ 256) × ((scope .count ≤ 4 + q) × ((q ≤ 4) × (count ≤ 8))) ⌝ }
-    ensures { λ r. ⌜ FormulaTold (signatures-of equations count) (bytes-at (now (text .entry)) (body .place) (body .size)) scope q at (r .ok) (r .fits) (r .next) ⌝ }
-{
-    if body.size <= at {
-        return result(false, false, at);
-    }
-    let code = digits::byte(text, body.place, body.size, at);
-    let operands = operands_of(code);
-    let after = 1 + digits::wide(operands);
-    let next = at + after;
-    let kind = kind_of(code);
-    match kind {
-        Kind::NoFormula => result(false, false, at),
-        Kind::Constant(_) => result(true, true, next),
-        Kind::Join(_) => read_formulas(text, body, at + 1, scope, q, equations, count, operands),
-        Kind::Quantifier(_) => {
-            if 4 <= q {
-                return result(false, false, at);
-            }
-            let r = digits::byte(text, body.place, body.size, at + 1);
-            if !is_range(r) {
-                return result(false, false, at);
-            }
-            let inner = push(scope, r);
-            read_formulas(
-                text,
-                body,
-                at + 2,
-                inner,
-                q + 1,
-                equations,
-                count,
-                operands - 1,
-            )
-        }
-        Kind::Compare(_) => {
-            let a = read_terms(text, body, at + 1, scope, operands, scope, 0);
-            result(a.ok, true, a.next)
-        }
-        Kind::Instance => read_instance(text, body, at, next, scope, equations, count),
+    let ranges = e.ranges;
+    if i < 4 {
+        ranges[i]
+    } else {
+        digits::smaller(digits::wide(e.k), 4) as u8
     }
 }
 
-// c formulas in a row.
-fn read_formulas(
-    text: &[u8],
-    body: Body,
-    at: usize,
-    scope: Scope,
-    q: usize,
-    equations: [Equation; 8],
-    count: usize,
-    c: u8,
-) -> Span
-    requires { ⌜ (body .size ≤ 256) × ((scope .count ≤ 4 + q) × ((q ≤ 4) × (count ≤ 8))) ⌝ }
-    ensures { λ r. ⌜ FormulasTold (signatures-of equations count) c (bytes-at (now (text .entry)) (body .place) (body .size)) scope q at (r .ok) (r .fits) (r .next) ⌝ }
+// Five bytes for each equation; in the last place how many equations there are.
+fn signatures_of(equations: [Equation; 8], count: usize) -> [u8; 41]
+    ensures { λ r. ⌜ signatures-in r ≡ signatures-of equations count ⌝ }
 {
-    if c == 0 {
-        return result(true, true, at);
+    let mut table = [0u8; 41];
+    table[40] = digits::smaller(count, 8) as u8;
+    let mut j: usize = 0;
+    while j < 40 {
+        table[j] = signature_byte(equations[j / 5], j % 5);
+        j += 1;
     }
-    let a = read_formula(text, body, at, scope, q, equations, count);
-    let m = a.next;
-    if !a.ok {
-        return result(false, false, m);
-    }
-    let b = read_formulas(text, body, m, scope, q, equations, count, c - 1);
-    let fits = digits::and(a.fits, b.fits);
-    result(b.ok, fits, b.next)
+    table
 }
 
 // What stands in the body of e.
 fn read_body(text: &[u8], e: Equation, equations: [Equation; 8], count: usize) -> Span
     ensures { λ r. ⌜ Told (λ f. fits (signatures-of equations count) f (ranges-of e)) (r .fits) (r .next) (body-at (now (text .entry)) e) (r .ok) ⌝ }
 {
-    let body = Body {
-        place: e.place,
-        size: e.length,
-    };
-    if 256 < body.size {
+    let size = e.length;
+    if 256 < size {
         return result(false, false, 0);
     }
-    let scope = signature_of(e);
-    let known = digits::smaller(count, 8);
-    read_formula(text, body, 0, scope, 0, equations, known)
+    let body = digits::bytes_at(text, e.place, size);
+    let signatures = signatures_of(equations, count);
+    read_formula(&body[..size], 0, parameters_of(e), 0, &signatures)
 }
 
 // Whether the body of e is one formula.

@@ -1,16 +1,34 @@
 -- `formulas::kind_of` meets its contract.
--- The first column of the row.
-use mathlib.Core.Path.{ap}
-use Rattle.formulas.specs.declared.Row.{Row}
+-- Each arm is the kind of its number; all other numbers are of no kind of formula.
+use mathlib.Core.Path.{sym, ap, _∙_}
+use Rattle.formulas.specs.Contract.{kind-numbered}
+use Rattle.formulas.proofs.Columns.{no-formula}
 use borrow.Author.Needs.{needs}
+use native.Mathlib.Omega.{arith}
 use Rattle.formulas.proofs.kind_of.Statement.{statement}
 use Rattle.formulas.proofs.kind_of.Tie as tie
 
-row-of-requires : tie.Need-row-of-requires
-row-of-requires c κs = search needs
-
-returns : tie.Need-returns
-returns c = ap (λ (r : Row). r .formula) (c .row-of .ensures)
+none : tie.Need-returns-12
+none c =
+    let r = c .match .rest in
+    no-formula (c .before .number-of .result)
+    (λ h. omega (arith, h, r .0 .0 .0 .0 .0 .1, r .0 .0 .0 .0 .1, r .0 .0 .0 .1, r .0 .0 .1, r .0 .1, r .1))
+    (λ h. omega (arith, h, r .0 .0 .0 .0 .0 .0 .0 .0 .0 .0, r .0 .0 .0 .0 .0 .0 .0 .0 .0 .1, r .0 .0 .0 .0 .0 .0 .0 .0 .1, r .0 .0 .0 .0 .0 .0 .0 .1, r .0 .0 .0 .0 .0 .0 .1)) ∙ c .before .number-of .ensures .0
 
 pub kind-of-spec : {M : Type 1} → statement M
-kind-of-spec = tie.close (tie.spec row-of-requires returns)
+unfolding kind-numbered
+kind-of-spec =
+    tie.close
+    (tie.spec (λ c κs. search needs)
+    (λ c. ap kind-numbered (sym (c .match .keys1)) ∙ c .before .number-of .ensures .0)
+    (λ c. ap kind-numbered (sym (c .match .keys2)) ∙ c .before .number-of .ensures .0)
+    (λ c. ap kind-numbered (sym (c .match .keys3)) ∙ c .before .number-of .ensures .0)
+    (λ c. ap kind-numbered (sym (c .match .keys4)) ∙ c .before .number-of .ensures .0)
+    (λ c. ap kind-numbered (sym (c .match .keys5)) ∙ c .before .number-of .ensures .0)
+    (λ c. ap kind-numbered (sym (c .match .keys6)) ∙ c .before .number-of .ensures .0)
+    (λ c. ap kind-numbered (sym (c .match .keys7)) ∙ c .before .number-of .ensures .0)
+    (λ c. ap kind-numbered (sym (c .match .keys8)) ∙ c .before .number-of .ensures .0)
+    (λ c. ap kind-numbered (sym (c .match .keys9)) ∙ c .before .number-of .ensures .0)
+    (λ c. ap kind-numbered (sym (c .match .keys10)) ∙ c .before .number-of .ensures .0)
+    (λ c. ap kind-numbered (sym (c .match .keys11)) ∙ c .before .number-of .ensures .0)
+    none)

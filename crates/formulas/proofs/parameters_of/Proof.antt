@@ -1,4 +1,4 @@
--- `formulas::signature_of` meets its contract.
+-- `formulas::parameters_of` meets its contract.
 -- The first ranges, at most the four that there are.
 use Prim.Native.Nat.{ℕ, min}
 use mathlib.Core.Path.{_≡_, ap, _∙_}
@@ -6,8 +6,8 @@ use mathlib.Core.List.{_∷_, []}
 use lib.ListN.{length}
 use Rattle.formulas.proofs.Bodies.{signature}
 use borrow.Author.Needs.{needs}
-use Rattle.formulas.proofs.signature_of.Statement.{statement}
-use Rattle.formulas.proofs.signature_of.Tie as tie
+use Rattle.formulas.proofs.parameters_of.Statement.{statement}
+use Rattle.formulas.proofs.parameters_of.Tie as tie
 
 array-read-t7 : tie.Need-array-read-t7
 array-read-t7 c = search needs
@@ -33,8 +33,8 @@ returns c =
     let n : length (a .e .ranges) ≡ 4 = search needs in
     signature (a .e .ranges) (0 ∷ 0 ∷ 0 ∷ 0 ∷ []) (a .e .k) (c .smaller .result) n (c .smaller .ensures ∙ ap (λ (x : ℕ). min x 4) (c .before .wide .ensures .0))
 
-pub signature-of-spec : {M : Type 1} → statement M
-signature-of-spec =
+pub parameters-of-spec : {M : Type 1} → statement M
+parameters-of-spec =
     tie.close
     (tie.spec
     array-read-t7

@@ -1,0 +1,133 @@
+-- The proof of the cycle of calls {read_formula}, over its frame (`Proof/Frame.antt`).
+-- `read_formula` reads a code and the code's kind: `head`. Each arm answers by the kind's law.
+mod Frame
+use Frame.*
+use Prim.Native.Nat.{ℕ, _+_}
+use native.Mathlib.Omega.{arith}
+use mathlib.Core.Path.{_≡_, sym, ap, _∙_}
+use mathlib.Core.List.{[], _∷_, _++_}
+use borrow.Author.Needs.{needs}
+use borrow.Author.Tests.{not-true, not-false}
+use Rattle.formulas.specs.Codes.{kind-of, operands-of}
+use Rattle.formulas.specs.Scopes.{seen}
+use Rattle.formulas.proofs.Formulas as law
+use Rattle.formulas.proofs.+read_formula as cycle
+use Rattle.formulas.proofs.+read_formula.Lts-read_formula as formula
+
+module _ (t : ℕ) where
+  -- what is read where the code's kind is known
+  module _ (c : formula.After-kind-of (formula-calls t) (formula-at t) formula-post) where
+    abbrev coded : formula.After-element (formula-calls t) (formula-at t) formula-post
+    coded = c .before .before .before
+
+    abbrev start : formula.Start (formula-calls t) (formula-at t) formula-post
+    start = coded .before .before .before
+
+    head : law.Head (start .args .body .now) (start .args .at) (start .args .at + (1 + c .before .wide .result))
+        (c .kind-of .result)
+    head = record {
+      inside = coded .before .if1 .left;
+      ends = ap (λ (n : ℕ). start .args .at + (1 + n)) (c .before .wide .ensures .0 ∙
+          c .before .before .operands-of .ensures ∙ ap operands-of (coded .element .ensures));
+      named = c .kind-of .ensures ∙ ap kind-of (coded .element .ensures);
+    }
+
+  past-the-end : formula.Need-returns (formula-calls t) (formula-at t) formula-post
+  past-the-end c = law.formula-answer (c .result .ensures) (law.formula-past (c .before .if1 .taken))
+
+  no-formula : formula.Need-returns-6 (formula-calls t) (formula-at t) formula-post
+  no-formula c =
+      law.formula-answer (c .result2 .ensures)
+      (law.formula-none (head (c .before .before .before)) (c .before .enum-told .given .1))
+
+  a-constant : formula.Need-returns-7 (formula-calls t) (formula-at t) formula-post
+  a-constant c =
+      law.formula-answer (c .result3 .ensures)
+      (law.formula-constant (head (c .before .before .before)) (c .before .enum-told2 .given .1))
+
+  join-stopped : formula.Need-returns-2 (formula-calls t) (formula-at t) formula-post
+  join-stopped c =
+      let first = c .before .before .before in
+      law.formula-answer (c .result4 .ensures)
+      (law.formula-join-stop (head (first .before .before .before)) (first .before .enum-told3 .given .1)
+      (first .read-formula .ensures) (not-true _ (c .before .if2 .taken)))
+
+  a-join : formula.Need-returns-8 (formula-calls t) (formula-at t) formula-post
+  a-join c =
+      let second = c .before .before in
+      let first = second .before .before .before in
+      law.formula-answer (c .result5 .ensures)
+      (law.formula-join (head (first .before .before .before)) (first .before .enum-told3 .given .1)
+      (first .read-formula .ensures) (not-false _ (second .before .if2 .left)) (second .read-formula2 .ensures)
+      (c .before .and .ensures))
+
+  a-fifth : formula.Need-returns-3 (formula-calls t) (formula-at t) formula-post
+  a-fifth c =
+      let arm = c .before .before in
+      law.formula-answer (c .result6 .ensures)
+      (law.formula-fifth (head (arm .before .before)) (arm .enum-told4 .given .1) (c .before .if3 .taken))
+
+  no-range : formula.Need-returns-4 (formula-calls t) (formula-at t) formula-post
+  no-range c =
+      let byte = c .before .before .before in
+      let arm = byte .before .before in
+      law.formula-answer (c .result7 .ensures)
+      (law.formula-quantifier-no (head (arm .before .before)) (arm .enum-told4 .given .1) (byte .before .if3 .left)
+      (byte .element2 .ensures) (sym (c .before .before .is-range .ensures) ∙ not-true _ (c .before .if4 .taken)))
+
+  -- there is place for one more variable
+  pushed : (c : formula.After-push (formula-calls t) (formula-at t) formula-post)
+      → let scope = start (c .before .before .before .before .before .before .before) .args .scope in
+      (c .push .result .count ≡ scope .count + 1) ×
+      (seen (c .push .result) ≡ seen scope ++ (c .before .before .before .element2 .result ∷ []))
+  pushed c = c .push .ensures .1 (omega arith)
+
+  a-quantifier : formula.Need-returns-9 (formula-calls t) (formula-at t) formula-post
+  a-quantifier c =
+      let test = c .before .before in
+      let byte = test .before .before in
+      let arm = byte .before .before in
+      law.formula-quantifier (head (arm .before .before)) (arm .enum-told4 .given .1) (byte .before .if3 .left)
+      (byte .element2 .ensures) (sym (test .before .is-range .ensures) ∙ not-false _ (test .if4 .left))
+      (pushed (c .before)) (c .read-formula3 .ensures)
+
+  compare-stopped : formula.Need-returns-5 (formula-calls t) (formula-at t) formula-post
+  compare-stopped c =
+      let first = c .before .before .before in
+      law.formula-answer (c .result8 .ensures)
+      (law.formula-compare-stop (head (first .before .before .before)) (first .before .enum-told5 .given .1)
+      (first .read-term .ensures) (not-true _ (c .before .if5 .taken)))
+
+  a-comparison : formula.Need-returns-10 (formula-calls t) (formula-at t) formula-post
+  a-comparison c =
+      let second = c .before in
+      let first = second .before .before .before in
+      law.formula-answer (c .result9 .ensures)
+      (law.formula-compare (head (first .before .before .before)) (first .before .enum-told5 .given .1)
+      (first .read-term .ensures) (not-false _ (second .before .if5 .left)) (second .read-term2 .ensures))
+
+  an-instance : formula.Need-returns-11 (formula-calls t) (formula-at t) formula-post
+  an-instance c =
+      law.formula-instance (head (c .before .before .before)) (c .before .enum-told6 .given .1)
+      (c .read-instance .ensures)
+
+  first-argument : (c : formula.After-enum-told6 (formula-calls t) (formula-at t) formula-post)
+      → let h = c .before .before in
+      start h .args .at + (1 + h .before .wide .result) ≡ start h .args .at + 1 + 2
+  first-argument c = law.instance-first (head (c .before .before)) (c .enum-told6 .given .1)
+
+pub +read-formula-spec : {M : Type 1} → cycle.statement M
++read-formula-spec =
+    cycle.Tie.close μ-formula
+    (λ t. formula.spec (formula-calls t) (formula-at t) formula-post
+    (λ c κs. search needs) (past-the-end t)
+    (λ c κs. search needs) (λ c κs. search needs) (λ c κs. search needs) (λ c. search needs) (λ c. search needs)
+    (λ c κs. search needs) (λ c. search needs) (λ c κs. search needs) (λ c. search needs) (λ c κs. search needs)
+    (λ c. search needs) (λ c. search needs) (λ c κs. omega arith) (λ c κs. search needs) (join-stopped t)
+    (λ c κs. omega (arith, c .before .before .read-formula .ensures .on)) (λ c κs. search needs) (λ c κs. search needs)
+    (λ c. search needs) (λ c κs. search needs) (a-fifth t) (λ c. search needs) (λ c κs. search needs)
+    (λ c κs. search needs) (λ c κs. search needs) (no-range t) (λ c. search needs) (λ c κs. search needs)
+    (λ c. search needs) (λ c κs. omega (arith, pushed t c .0)) (λ c. search needs) (λ c. search needs)
+    (λ c κs. search needs) (λ c κs. search needs) (compare-stopped t) (λ c κs. search needs) (λ c κs. search needs)
+    (λ c. search needs) (λ c. search needs) (λ c κs. omega (arith, first-argument t c))
+    (no-formula t) (a-constant t) (a-join t) (a-quantifier t) (a-comparison t) (an-instance t))
