@@ -8,7 +8,8 @@ use mathlib.Core.Bool.{Bool, true, false}
 use mathlib.Core.List.{List, _++_}
 use lib.Dec.{ltb}
 use lib.ListN.{length, length-append, length-set, length-replicate, getD, take, set, replicate, getD-replicate, List·getD-append}
-use lib.Seq.{length-take-le, take-take, take-append-le, take-all, getD-take, getD-append-add, getD-set-same, getD-set-other, ext-getD}
+use lib.Seq.{length-take-le, take-take, take-append-le, take-all}
+use lib.Seq.{getD-take, getD-append-add, getD-set-same, getD-set-other, ext-getD}
 use borrow.Author.Tests.{ltb-true, ltb-false}
 use Rattle.digits.specs.Digits.{bytes-at, padded-at}
 use Rattle.digits.proofs.Bytes.{length-bytes, byte-beyond}

@@ -343,7 +343,7 @@ pub fn byte(text: &[u8], place: usize, size: usize, i: usize) -> u8
     byte_at(text, there)
 }
 
-// The first 256 of the `size` bytes whose digits start at `place`, with zeros after them where there are fewer.
+// The first 256 of the `size` bytes whose digits start at `place`; zeros after them where there are fewer.
 pub fn bytes_at(text: &[u8], place: usize, size: usize) -> [u8; 256]
     ensures { λ r. ⌜ r ≡ padded-at (now (text .entry)) place size ⌝ }
 {

@@ -1,5 +1,5 @@
 -- What is told of the instances in each kind of formula: whether they fit.
--- The laws of `ByKind`, told of `fits`; an instance fits where it has as many arguments as its equation has parameters and each fits.
+-- The laws of `ByKind`, told of `fits`; an instance's arguments are as many as its equation's parameters, or it does not fit.
 use Prim.Native.Nat.{ℕ, zero, suc, _+_, _*_, _≤_, _<_}
 use native.Mathlib.Omega.{arith}
 use mathlib.Core.Path.{_≡_, refl, sym, ap, _∙_}

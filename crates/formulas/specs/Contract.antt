@@ -1,4 +1,4 @@
--- What the contracts of the formula reader's inner functions say; no definition of the documents' words stands here.
+-- What the contracts of the formula reader's inner functions say; no definition of the documents' words is here.
 -- `Told` is two-sided: whether something was read, and where it was, where it ends and what v is of it.
 use Prim.Native.Nat.{ℕ, zero, suc, _+_, _-_, _*_, _≤_, min}
 use mathlib.Core.Path.{_≡_}
@@ -33,8 +33,8 @@ numbered-term-kinds = NoTerm ∷ Number ∷ Variable ∷ Calculation true ∷ Ca
 unfoldable pub term-kind-numbered : ℕ → TermKind
 term-kind-numbered n = getD numbered-term-kinds (n - 11) NoTerm
 
--- ---- the signatures as bytes: five for each equation, its four ranges and how many of them are parameters'; in place 40
--- stands how many equations there are
+-- ---- the signatures as bytes: five for each equation, its four ranges and how many of them are parameters';
+-- in place 40 stands how many equations there are
 abbrev pub signature-byte : Equation → ℕ → ℕ
 signature-byte e i = cond (ltb i 4) (getD (e .ranges) i 0) (min (e .k) 4)
 
@@ -62,21 +62,25 @@ pub data Told {A B : Type 0} (d : A → B) (v : B) (e : ℕ) : Parsed A → Bool
 -- n is deep enough: as many as the bytes that are left
 pub record TermTold (s : List ℕ) (scope : Scope) (at : ℕ) (ok : Bool) (v e : ℕ) : Type 0 where
   pub on : at ≤ e
-  pub tells : (n : ℕ) → length s ≤ n + at → Told (λ t. term-range t (seen scope)) v e (term-at n s (scope .count) at) ok
+  pub tells : (n : ℕ) → length s ≤ n + at
+      → Told (λ t. term-range t (seen scope)) v e (term-at n s (scope .count) at) ok
 
--- c terms, as the arguments for the parameters with the ranges ps; `before` is whether all fits that stands before them
-pub record ArgumentsTold (before : Bool) (ps : List ℕ) (c : ℕ) (s : List ℕ) (scope : Scope) (at : ℕ) (ok : Bool) (v : Bool) (e : ℕ) : Type 0 where
+-- c terms, as the arguments for the parameters with the ranges ps; `before` is whether all fits that is before them
+pub record ArgumentsTold (before : Bool) (ps : List ℕ) (c : ℕ) (s : List ℕ) (scope : Scope) (at : ℕ) (ok v : Bool)
+    (e : ℕ) : Type 0 where
   pub on : at ≤ e
   pub tells : (n : ℕ) → length s ≤ n + at
       → Told (λ ts. before && arguments-fit ts ps (seen scope)) v e (terms-at n c s (scope .count) at) ok
 
 -- the instance whose equation stands at `at`
-pub record InstanceTold (signatures : List (List ℕ)) (s : List ℕ) (scope : Scope) (at : ℕ) (ok : Bool) (v : Bool) (e : ℕ) : Type 0 where
+pub record InstanceTold (signatures : List (List ℕ)) (s : List ℕ) (scope : Scope) (at : ℕ) (ok v : Bool)
+    (e : ℕ) : Type 0 where
   pub on : at ≤ e
   pub tells : (n : ℕ) → length s ≤ n + at
       → Told (λ f. fits signatures f (seen scope)) v e (instance-at n s (scope .count) at) ok
 
-pub record FormulaTold (signatures : List (List ℕ)) (s : List ℕ) (scope : Scope) (q at : ℕ) (ok : Bool) (v : Bool) (e : ℕ) : Type 0 where
+pub record FormulaTold (signatures : List (List ℕ)) (s : List ℕ) (scope : Scope) (q at : ℕ) (ok v : Bool)
+    (e : ℕ) : Type 0 where
   pub on : at ≤ e
   pub tells : (n : ℕ) → length s ≤ n + at
       → Told (λ f. fits signatures f (seen scope)) v e (formula-at n s (scope .count) q at) ok

@@ -8,7 +8,8 @@ ghost use Rattle.meaning.specs.Ranges.{is-range, fits};
 ghost use Rattle.formulas.specs.Codes.{kind-of, term-kind-of, operands-of};
 ghost use Rattle.formulas.specs.Scopes.{seen, pushed};
 ghost use Rattle.formulas.specs.Bodies.{ranges-of, signatures-of, body-at, is-body, is-fitting};
-ghost use Rattle.formulas.specs.Contract.{kind-numbered, term-kind-numbered, part, signature-byte, signatures-in};
+ghost use Rattle.formulas.specs.Contract.{kind-numbered, term-kind-numbered};
+ghost use Rattle.formulas.specs.Contract.{part, signature-byte, signatures-in};
 ghost use Rattle.formulas.specs.Contract.{Told, TermTold, ArgumentsTold, InstanceTold, FormulaTold};
 
 // An equation's record. Absent ranges are 1; `place` is that of the body's first digit in the text, `length` the body's in bytes.
@@ -85,7 +86,7 @@ struct TermSpan {
     next: usize,
 }
 
-// Whether a formula was read, or some arguments in a row; whether the instances in it fit, or the arguments; where it ends.
+// Whether a formula was read, or some arguments; whether the instances in it fit, or the arguments; where it ends.
 struct Span {
     ok: bool,
     fits: bool,
@@ -245,7 +246,8 @@ fn read_arguments(
     fits: bool,
 ) -> Span
     requires { ⌜ (length (now body) ≤ 256) × (j + c ≤ 1279) ⌝ }
-    ensures { λ r. ⌜ ArgumentsTold fits (part (now (signatures .entry)) j c) c (now (body .entry)) scope at (r .ok) (r .fits) (r .next) ⌝ }
+    ensures { λ r. ⌜ ArgumentsTold fits (part (now (signatures .entry)) j c) c (now (body .entry)) scope at
+        (r .ok) (r .fits) (r .next) ⌝ }
 {
     if c == 0 {
         return result(true, fits, at);
@@ -270,7 +272,8 @@ fn read_arguments(
 // The instance whose equation and number of arguments stand at `at` and whose arguments start at `first`.
 fn read_instance(body: &[u8], at: usize, first: usize, scope: Scope, signatures: &[u8; 41]) -> Span
     requires { ⌜ (length (now body) ≤ 256) × ((at ≤ length (now body)) × (first ≡ at + 2)) ⌝ }
-    ensures { λ r. ⌜ InstanceTold (signatures-in (now (signatures .entry))) (now (body .entry)) scope at (r .ok) (r .fits) (r .next) ⌝ }
+    ensures { λ r. ⌜ InstanceTold (signatures-in (now (signatures .entry))) (now (body .entry)) scope at
+        (r .ok) (r .fits) (r .next) ⌝ }
 {
     let x = digits::wide(digits::element(body, at));
     let c = digits::element(body, at + 1);
@@ -286,7 +289,8 @@ fn read_instance(body: &[u8], at: usize, first: usize, scope: Scope, signatures:
 // The formula at `at`, with q quantifiers around it; `scope` has the ranges of the variables in reach.
 fn read_formula(body: &[u8], at: usize, scope: Scope, q: usize, signatures: &[u8; 41]) -> Span
     requires { ⌜ (length (now body) ≤ 256) × ((scope .count ≤ 4 + q) × (q ≤ 4)) ⌝ }
-    ensures { λ r. ⌜ FormulaTold (signatures-in (now (signatures .entry))) (now (body .entry)) scope q at (r .ok) (r .fits) (r .next) ⌝ }
+    ensures { λ r. ⌜ FormulaTold (signatures-in (now (signatures .entry))) (now (body .entry)) scope q at
+        (r .ok) (r .fits) (r .next) ⌝ }
 {
     if body.len() <= at {
         return result(false, false, at);
@@ -351,7 +355,7 @@ fn signature_byte(e: Equation, i: usize) -> u8
     }
 }
 
-// Five bytes for each equation; in the last place how many equations there are.
+// Five bytes for each equation; in the last place how many equations may be named, the first `count`.
 fn signatures_of(equations: [Equation; 8], count: usize) -> [u8; 41]
     ensures { λ r. ⌜ signatures-in r ≡ signatures-of equations count ⌝ }
 {

@@ -10,10 +10,11 @@ use Rattle.formulas.proofs.kind_of.Tie as tie
 
 none : tie.Need-returns-12
 none c =
-    let r = c .match .rest in
+    let high = c .match .rest in
+    let low = high .0 .0 .0 .0 .0 .0 in
     no-formula (c .before .number-of .result)
-    (λ h. omega (arith, h, r .0 .0 .0 .0 .0 .1, r .0 .0 .0 .0 .1, r .0 .0 .0 .1, r .0 .0 .1, r .0 .1, r .1))
-    (λ h. omega (arith, h, r .0 .0 .0 .0 .0 .0 .0 .0 .0 .0, r .0 .0 .0 .0 .0 .0 .0 .0 .0 .1, r .0 .0 .0 .0 .0 .0 .0 .0 .1, r .0 .0 .0 .0 .0 .0 .0 .1, r .0 .0 .0 .0 .0 .0 .1)) ∙ c .before .number-of .ensures .0
+    (λ h. omega (arith, high .1, high .0 .1, high .0 .0 .1, high .0 .0 .0 .1, high .0 .0 .0 .0 .1, high .0 .0 .0 .0 .0 .1))
+    (λ h. omega (arith, low .1, low .0 .1, low .0 .0 .1, low .0 .0 .0 .1, low .0 .0 .0 .0)) ∙ c .before .number-of .ensures .0
 
 pub kind-of-spec : {M : Type 1} → statement M
 unfolding kind-numbered

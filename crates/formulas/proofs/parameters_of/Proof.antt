@@ -31,7 +31,8 @@ returns : tie.Need-returns
 returns c =
     let a = c .before .before .before .args in
     let n : length (a .e .ranges) ≡ 4 = search needs in
-    signature (a .e .ranges) (0 ∷ 0 ∷ 0 ∷ 0 ∷ []) (a .e .k) (c .smaller .result) n (c .smaller .ensures ∙ ap (λ (x : ℕ). min x 4) (c .before .wide .ensures .0))
+    signature (a .e .ranges) (0 ∷ 0 ∷ 0 ∷ 0 ∷ []) (a .e .k) (c .smaller .result) n
+    (c .smaller .ensures ∙ ap (λ (x : ℕ). min x 4) (c .before .wide .ensures .0))
 
 pub parameters-of-spec : {M : Type 1} → statement M
 parameters-of-spec =
