@@ -93,6 +93,7 @@ struct Span {
     next: usize,
 }
 
+// The number of a code's kind, to which `kind_of` and `term_kind_of` give a name; 0 outside 10 to 23.
 fn number_of(code: u8) -> u8
     ensures { λ r. ⌜ (kind-numbered r ≡ kind-of code) × (term-kind-numbered r ≡ term-kind-of code) ⌝ }
 {
@@ -235,7 +236,8 @@ fn read_term(body: &[u8], at: usize, scope: Scope) -> TermSpan
     }
 }
 
-// c terms in a row, as arguments for the parameters whose ranges stand from `j` on.
+// c terms in a row, as arguments for the parameters whose ranges stand from `j` on;
+// `fits` is whether all that is before them fits.
 fn read_arguments(
     body: &[u8],
     at: usize,
