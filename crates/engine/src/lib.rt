@@ -16,8 +16,8 @@ ghost use Rattle.engine.specs.Examined.{Judged};
 ghost use Rattle.engine.specs.Found.{model-in, instance-in, left-in, Searchable, Found};
 ghost use Rattle.engine.specs.Gathered.{settled, is-open, Gatherable, GatherMeets, FoldGathers, OpenMeets, words-left};
 ghost use Rattle.engine.specs.Kept.{filled-of, stock, Kept, Adds};
-ghost use Rattle.engine.specs.Sides.{Ready, is-true, side-of, sides, set-equation, numbered-system, AllReady};
-ghost use Rattle.engine.specs.Solved.{always, solved};
+ghost use Rattle.engine.specs.Sides.{Ready, is-true, side-of, sides, set-equation, numbered-system, first-values, FewEquations, AllReady};
+ghost use Rattle.engine.specs.Solved.{Unsolved, solved};
 ghost use Rattle.engine.specs.Stock.{add};
 use answers::Answer;
 use evaluator::Value;
@@ -378,18 +378,18 @@ fn right_side(
     evaluator::evaluate(&bodies[first..end], scope_of(w, k), table, truth)
 }
 
-// Equation e's instances at b.
-fn start(table: &[u32], e: usize, b: bool, t: [u64; 8]) -> [u64; 8]
-    requires { ⌜ length (now table) ≤ 512 ⌝ }
-    ensures { λ r. ⌜ bit-of r ≡ set-equation (now (table .entry)) e (always b) (bit-of t) ⌝ }
+// Every instance at the constant of its equation's sign: false for least, true for greatest; of the first `count` equations.
+fn first_values(equations: [Equation; 8], count: usize, table: &[u32]) -> [u64; 8]
+    requires { ⌜ FewEquations (now table) ⌝ }
+    ensures { λ r. ⌜ bit-of r ≡ first-values equations count (now (table .entry)) (length (now (table .entry))) ⌝ }
 {
-    let mut s = t;
+    let mut s = truth::none();
     let mut j: usize = 0;
     while j < table.len() {
-        if (table[j] / 65536) as usize == e {
-            let u = truth::put(s, j, b);
-            s = u;
-        }
+        let e = (table[j] / 65536) as usize;
+        let equation = equations[e];
+        let u = truth::put(s, j, digits::and(e < count, equation.sign == 1));
+        s = u;
         j += 1;
     }
     s
@@ -421,7 +421,9 @@ fn step(
     s
 }
 
-// The equations from e on, solved in the set t: for each candidate of equation e the later ones anew.
+// The equations from e on, solved in the set t, where they are at their first values: for each candidate of equation e the
+// later ones anew. `current` keeps their first values, since a step changes equation e's instances alone; to go on from
+// `inner` would carry values over from which the fixed point for the next candidate can't be reached.
 fn solve(
     bodies: &[u8],
     equations: [Equation; 8],
@@ -430,14 +432,13 @@ fn solve(
     e: usize,
     t: [u64; 8],
 ) -> [u64; 8]
-    requires { ⌜ AllReady (now bodies) equations (now table) × (e ≤ count) × (count ≤ 8) ⌝ }
+    requires { ⌜ AllReady (now bodies) equations (now table) × (e ≤ count) × (count ≤ 8) × Unsolved (numbered-system (now bodies) equations (now table)) count e (bit-of t) ⌝ }
     ensures { λ r. ⌜ bit-of r ≡ solved (numbered-system (now (bodies .entry)) equations (now (table .entry))) (count - e) e (bit-of t) ⌝ }
 {
     if e == count {
         return t;
     }
-    let equation = equations[e];
-    let mut current = start(table, e, equation.sign == 1, t);
+    let mut current = t;
     let mut turns: usize = 0;
     while turns < table.len() {
         let inner = solve(bodies, equations, count, table, e + 1, current);
@@ -456,7 +457,8 @@ fn solution_of(bodies: &[u8], equations: [Equation; 8], count: usize, table: &[u
     requires { ⌜ AllReady (now bodies) equations (now table) × (count ≤ 8) ⌝ }
     ensures { λ r. ⌜ bit-of r ≡ solved (numbered-system (now (bodies .entry)) equations (now (table .entry))) count 0 nowhere ⌝ }
 {
-    solve(bodies, equations, count, table, 0, truth::none())
+    let first = first_values(equations, count, table);
+    solve(bodies, equations, count, table, 0, first)
 }
 
 // ---- a whole text
