@@ -1,37 +1,39 @@
--- ONE REPLY: two replies that the promises allow for the same input are equal, for each thing that comes back and each place that is lent.
--- Every promise is an equation with a function of the input.
+-- ONE REPLY: two replies that the promises allow for the same input are equal, for each thing that comes back
+-- and each place that is lent. Every promise is an equation with a function of the input.
 use Prim.Native.Nat.{ℕ}
-use mathlib.Core.Path.{_≡_, sym, _∙_}
+use mathlib.Core.Path.{_≡_}
 use mathlib.Core.List.{List}
+use Rattle.meaning.specs.OneReply.{one-reply}
 use Rattle.answers.specs.declared.Answer.{Answer}
 use Rattle.answers.specs.Answers.{answer, table-after, checked, table-after-check}
 use Rattle.answers.specs.Printed.{printed, bytes-written, buffer-after}
 
-both-the-same : {A : Type 0} {promised : A} (a b : A) → a ≡ promised → b ≡ promised → a ≡ b
-both-the-same a b p q = p ∙ sym q
-
 module _ (t : List ℕ) where
   -- the answer, where records are lent and where none are
-  pub one-checked-answer : (records words : ℕ) (a b : Answer) → a ≡ checked t records words → b ≡ checked t records words → a ≡ b
-  one-checked-answer records words = both-the-same
+  pub one-checked-answer : (records words : ℕ) {a b : Answer}
+      → a ≡ checked t records words → b ≡ checked t records words → a ≡ b
+  one-checked-answer records words = one-reply
 
-  pub one-answer : (words : ℕ) (a b : Answer) → a ≡ answer t words → b ≡ answer t words → a ≡ b
-  one-answer words = both-the-same
+  pub one-answer : (words : ℕ) {a b : Answer} → a ≡ answer t words → b ≡ answer t words → a ≡ b
+  one-answer words = one-reply
 
   -- the table afterwards
-  pub one-checked-table : (records : ℕ) (table a b : List ℕ) → a ≡ table-after-check t records table → b ≡ table-after-check t records table → a ≡ b
-  one-checked-table records table = both-the-same
+  pub one-checked-table : (records : ℕ) (table : List ℕ) {a b : List ℕ}
+      → a ≡ table-after-check t records table → b ≡ table-after-check t records table → a ≡ b
+  one-checked-table records table = one-reply
 
-  pub one-table : (table a b : List ℕ) → a ≡ table-after t table → b ≡ table-after t table → a ≡ b
-  one-table table = both-the-same
+  pub one-table : (table : List ℕ) {a b : List ℕ} → a ≡ table-after t table → b ≡ table-after t table → a ≡ b
+  one-table table = one-reply
 
   -- what is printed
-  pub one-output : (a b : List ℕ) → a ≡ printed t → b ≡ printed t → a ≡ b
-  one-output = both-the-same
+  pub one-output : {a b : List ℕ} → a ≡ printed t → b ≡ printed t → a ≡ b
+  one-output = one-reply
 
   -- the number of bytes written into a buffer, and the buffer afterwards
-  pub one-number-written : (buffer-length a b : ℕ) → a ≡ bytes-written t buffer-length → b ≡ bytes-written t buffer-length → a ≡ b
-  one-number-written buffer-length = both-the-same
+  pub one-number-written : (buffer-length : ℕ) {a b : ℕ}
+      → a ≡ bytes-written t buffer-length → b ≡ bytes-written t buffer-length → a ≡ b
+  one-number-written buffer-length = one-reply
 
-  pub one-buffer : (buffer a b : List ℕ) → a ≡ buffer-after t buffer → b ≡ buffer-after t buffer → a ≡ b
-  one-buffer buffer = both-the-same
+  pub one-buffer : (buffer : List ℕ) {a b : List ℕ}
+      → a ≡ buffer-after t buffer → b ≡ buffer-after t buffer → a ≡ b
+  one-buffer buffer = one-reply

@@ -1,9 +1,11 @@
 -- DEFINITIONS: the promises of the public operations, for all inputs: one equation for what comes back and one for each lent place.
--- THEOREMS: one reply for each input. Two replies that a promise allows are equal.
-use mathlib.Core.Path.{_≡_, sym, _∙_}
+-- THEOREMS: one reply for each input. Two replies that a promise allows are equal. (`devashtor_check` promises
+-- `Written`: its one reply is `one-writing`, in printing/specs/Promise.)
+use mathlib.Core.Path.{_≡_}
 use Prim.Native.Nat.{ℕ}
 use mathlib.Core.List.{List}
 use lib.ListN.{length}
+use Rattle.meaning.specs.OneReply.{one-reply}
 use Rattle.answers.specs.declared.Answer.{Answer}
 use Rattle.answers.specs.Answers.{checked, table-after-check}
 use Rattle.checker.specs.declared.Record.{Record}
@@ -21,9 +23,14 @@ pub record Checked (t : List ℕ) (records : List Record) (table : List ℕ) (a 
   pub filled : records-left ≡ records-after-check t (length table) records
   pub listed : table-left ≡ table-after-check t (length records) table
 
-pub one-reading : (t : List ℕ) (records : List Record) {a b : ReadAnswer} {xs ys : List Record} → Read t records a xs → Read t records b ys → (a ≡ b) × (xs ≡ ys)
-one-reading t records p q = (p .answered ∙ sym (q .answered), p .filled ∙ sym (q .filled))
+pub one-reading : (t : List ℕ) (records : List Record) {a b : ReadAnswer} {xs ys : List Record}
+    → Read t records a xs → Read t records b ys → (a ≡ b) × (xs ≡ ys)
+one-reading t records p q = (one-reply (p .answered) (q .answered), one-reply (p .filled) (q .filled))
 
-pub one-check : (t : List ℕ) (records : List Record) (table : List ℕ) {a b : Answer} {xs ys : List Record} {ws vs : List ℕ}
+pub one-check : (t : List ℕ) (records : List Record) (table : List ℕ)
+    {a b : Answer} {xs ys : List Record} {ws vs : List ℕ}
     → Checked t records table a xs ws → Checked t records table b ys vs → (a ≡ b) × ((xs ≡ ys) × (ws ≡ vs))
-one-check t records table p q = (p .answered ∙ sym (q .answered), (p .filled ∙ sym (q .filled), p .listed ∙ sym (q .listed)))
+one-check t records table p q = (
+  one-reply (p .answered) (q .answered),
+  (one-reply (p .filled) (q .filled), one-reply (p .listed) (q .listed)),
+)
