@@ -11,3 +11,4 @@ pub mod Gathered
 pub mod Found
 pub mod DecodedModel
 pub mod Examined
+pub mod OneReply

@@ -5,3 +5,4 @@ pub mod Shapes
 pub mod Bodies
 pub mod Scopes
 pub mod Contract
+pub mod OneReply

@@ -3,3 +3,4 @@ pub mod Frames
 pub mod Meant
 pub mod Models
 pub mod Reading
+pub mod OneReply

@@ -1,3 +1,4 @@
 mod Flips
 pub mod Bits
 pub mod Words
+pub mod OneReply

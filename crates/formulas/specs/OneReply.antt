@@ -1,0 +1,49 @@
+-- ONE REPLY: for each public function two results that its contract allows are equal.
+-- Each contract has an equation of the whole result.
+use Prim.Native.Nat.{ℕ, _+_, _<_}
+use mathlib.Core.Path.{_≡_}
+use mathlib.Core.Bool.{Bool}
+use mathlib.Core.List.{List, [], _∷_, _++_}
+use lib.ListN.{getD}
+use Rattle.meaning.specs.OneReply.{one-reply}
+use Rattle.meaning.specs.Ranges.{is-range}
+use Rattle.formulas.specs.declared.Equation.{Equation}
+use Rattle.formulas.specs.declared.Kind.{Kind}
+use Rattle.formulas.specs.declared.TermKind.{TermKind}
+use Rattle.formulas.specs.declared.Scope.{Scope}
+use Rattle.formulas.specs.Codes.{kind-of, term-kind-of, operands-of}
+use Rattle.formulas.specs.Scopes.{seen, pushed}
+use Rattle.formulas.specs.Bodies.{is-body, is-fitting}
+
+pub one-kind-of : (code : ℕ) {r s : Kind} → r ≡ kind-of code → s ≡ kind-of code → r ≡ s
+one-kind-of code = one-reply
+
+pub one-term-kind-of : (code : ℕ) {r s : TermKind} → r ≡ term-kind-of code → s ≡ term-kind-of code → r ≡ s
+one-term-kind-of code = one-reply
+
+pub one-operands-of : (code : ℕ) {r s : ℕ} → r ≡ operands-of code → s ≡ operands-of code → r ≡ s
+one-operands-of code = one-reply
+
+-- what `push` promises of its result; the second part is a consequence of the first, for its callers
+abbrev pub Pushes : Scope → ℕ → Scope → Type 0
+Pushes scope value r =
+    (r ≡ pushed scope value)
+    × (scope .count < 8 → (r .count ≡ scope .count + 1) × (seen r ≡ seen scope ++ (value ∷ [])))
+
+pub one-push : (scope : Scope) (value : ℕ) {r s : Scope} → Pushes scope value r → Pushes scope value s → r ≡ s
+one-push scope value p q = one-reply (p .0) (q .0)
+
+pub one-variable : (scope : Scope) (i : ℕ) {r s : ℕ}
+    → r ≡ getD (seen scope) i 0 → s ≡ getD (seen scope) i 0 → r ≡ s
+one-variable scope i = one-reply
+
+pub one-is-range : (r : ℕ) {b c : Bool} → b ≡ is-range r → c ≡ is-range r → b ≡ c
+one-is-range r = one-reply
+
+pub one-is-body : (text : List ℕ) (e : Equation) {r s : Bool}
+    → r ≡ is-body text e → s ≡ is-body text e → r ≡ s
+one-is-body text e = one-reply
+
+pub one-is-fitting : (text : List ℕ) (e : Equation) (equations : List Equation) (count : ℕ) {r s : Bool}
+    → r ≡ is-fitting equations count text e → s ≡ is-fitting equations count text e → r ≡ s
+one-is-fitting text e equations count = one-reply
