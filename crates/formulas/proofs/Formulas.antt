@@ -1,5 +1,5 @@
 -- What is told of the instances in each kind of formula: whether they fit.
--- The laws of `ByKind`, told of `fits`; an instance's arguments are as many as its equation's parameters, or it does not fit.
+-- The laws of `ByKind` and `Limits`, told of `fits`; an instance that fits has as many arguments as its equation parameters.
 use Prim.Native.Nat.{ℕ, zero, suc, _+_, _*_, _≤_, _<_}
 use native.Mathlib.Omega.{arith}
 use mathlib.Core.Path.{_≡_, refl, sym, ap, _∙_}
@@ -7,7 +7,7 @@ use mathlib.Core.Logic.{_≢_}
 use mathlib.Core.Bool.{Bool, true, false, _&&_}
 use mathlib.Core.List.{List, [], _∷_, _++_}
 use lib.Dec.{eqb, ltb}
-use lib.ListN.{length, getD, List·getD-eq-default}
+use lib.ListN.{length, getD}
 use borrow.Author.Tests.{eqb-true, eqb-false, ltb-true, le-leb, lt-leb}
 use Rattle.meaning.specs.Logic.{_and_}
 use Rattle.meaning.specs.Formulas.{Term, Formula, instance}
@@ -18,16 +18,16 @@ use Rattle.formulas.specs.declared.Kind.the-variants.{NoFormula, Constan
 use Rattle.formulas.specs.declared.Test.{Test}
 use Rattle.formulas.specs.Codes.{kind-of, operands-of}
 use Rattle.formulas.specs.Decode.{Parsed, none, some, then, in-row, term-at}
-use Rattle.formulas.specs.Shapes.{no-kind, operands-constant, operands-instance}
+use Rattle.formulas.specs.Shapes.{operands-constant, operands-instance}
 use Rattle.formulas.specs.Scopes.{seen}
 use Rattle.formulas.specs.Contract.{part, signature-in, signatures-in}
-use Rattle.formulas.specs.Contract.{Told, refused, told, TermTold, ArgumentsTold, InstanceTold, FormulaTold}
+use Rattle.formulas.specs.Contract.{Told, refused, told, within, TermTold, ArgumentsTold, InstanceTold, FormulaTold}
 use Rattle.formulas.proofs.Told.{and-same, told-when, told-unless}
 use Rattle.formulas.proofs.Decoded.{Every, unread, each, every-then}
 use Rattle.formulas.proofs.Signatures.{part-length, known-length, known-at}
-use Rattle.formulas.proofs.ByKind.{told-no-formula, told-constant, told-join-stop, told-join}
-use Rattle.formulas.proofs.ByKind.{told-quantifier-deep, told-quantifier-no, told-quantifier}
+use Rattle.formulas.proofs.ByKind.{told-no-formula, told-constant, told-quantifier-deep, told-quantifier-no}
 use Rattle.formulas.proofs.ByKind.{told-compared-stop, told-compared, told-compare, told-instance}
+use Rattle.formulas.proofs.Limits.{within-late, within-on, within-join-stop, within-join, within-quantifier}
 
 -- ---- an instance: c terms in a row are c
 any : {A : Type 0} (p : Parsed A) → Every (λ a. a ≡ a) p
@@ -94,21 +94,28 @@ module _ {s : List ℕ} {scope : Scope} {at c : ℕ} (number : c ≡ getD s (at 
   }
 
 -- ---- formulas
-pub formula-answer : {sigs : List (List ℕ)} {s : List ℕ} {scope : Scope} {q at e e′ : ℕ} {ok ok′ v v′ : Bool}
-    → (ok′ ≡ ok) × ((v′ ≡ v) × (e′ ≡ e)) → FormulaTold sigs s scope q at ok v e → FormulaTold sigs s scope q at ok′ v′ e′
+pub formula-answer : {sigs : List (List ℕ)} {s : List ℕ} {scope : Scope} {limit q at e e′ : ℕ} {ok ok′ v v′ : Bool}
+    → (ok′ ≡ ok) × ((v′ ≡ v) × (e′ ≡ e)) → FormulaTold sigs s limit scope q at ok v e
+    → FormulaTold sigs s limit scope q at ok′ v′ e′
 formula-answer r t = rw (r .0, r .1 .0, r .1 .1) t
 
 -- what is told of a formula
 abbrev fit : List (List ℕ) → Scope → Formula → Bool
 fit sigs scope f = fits sigs f (seen scope)
 
-pub formula-past : {sigs : List (List ℕ)} {s : List ℕ} {scope : Scope} {q at : ℕ} {v : Bool} → length s ≤ at
-    → FormulaTold sigs s scope q at false v at
-formula-past {sigs} {s} {scope} {q} {at} {v} h = record {
+-- at the limit or past it
+pub formula-late : {sigs : List (List ℕ)} {s : List ℕ} {scope : Scope} {limit q at : ℕ} {v : Bool} → limit ≤ at
+    → FormulaTold sigs s limit scope q at false v at
+formula-late {sigs} {s} {scope} {limit} {q} {at} {v} h = record {
   on = omega arith;
-  tells = λ n _. told-no-formula (fit sigs scope) s (scope .count) q at v at n
-      (rw (List·getD-eq-default s 0 {n = at} h) no-kind);
+  tells = λ n _. within-late (fit sigs scope) s (scope .count) q at v at n h;
 }
+
+-- a formula takes a byte at least
+pub formula-on : {sigs : List (List ℕ)} {s : List ℕ} {scope : Scope} {limit q at e : ℕ} {ok v : Bool}
+    → FormulaTold sigs s limit scope q at ok v e → ok ≡ true → at < e
+formula-on {s} {scope} {q} {at} t z =
+    within-on s (scope .count) q at (length s) (rw z at (t .tells (length s) (omega arith)))
 
 -- what is read in front of a formula: the code's kind and where its operands end
 pub record Head (s : List ℕ) (at next : ℕ) (kind : Kind) : Type 0 where
@@ -121,89 +128,94 @@ pub instance-first : {s : List ℕ} {at next : ℕ} {kind : Kind} → Head s at 
 instance-first h k = omega (arith, h .ends, operands-instance _ (sym (h .named) ∙ k))
 
 module _ {s : List ℕ} {at next : ℕ} {kind : Kind} (h : Head s at next kind)
-    {sigs : List (List ℕ)} {scope : Scope} {q : ℕ} where
-  pub formula-none : {v : Bool} → kind ≡ NoFormula → FormulaTold sigs s scope q at false v at
+    {sigs : List (List ℕ)} {scope : Scope} {limit q : ℕ} where
+  pub formula-none : {v : Bool} → kind ≡ NoFormula → FormulaTold sigs s limit scope q at false v at
   formula-none k = record {
     on = omega arith;
-    tells = λ n _. told-no-formula (fit sigs scope) s (scope .count) q at _ at n (sym (h .named) ∙ k);
+    tells = λ n _. within (told-no-formula (fit sigs scope) s (scope .count) q at _ at n (sym (h .named) ∙ k));
   }
 
-  pub formula-constant : {b : Bool} → kind ≡ Constant b → FormulaTold sigs s scope q at true true next
+  pub formula-constant : {b : Bool} → kind ≡ Constant b → FormulaTold sigs s limit scope q at true true next
   unfolding fits
   formula-constant {b} k =
       let named = sym (h .named) ∙ k in
       let e : next ≡ at + 1 = omega (arith, h .ends, operands-constant _ b named) in
       record {
         on = omega (arith, e);
-        tells = λ n l. told-constant (fit sigs scope) s (scope .count) q at true next n l (h .inside) b named refl e;
+        tells = λ n l. within
+            (told-constant (fit sigs scope) s (scope .count) q at true next n l (h .inside) b named refl e);
       }
 
-  module _ {all : Bool} (k : kind ≡ Join all) {one a : Bool} {m : ℕ} (first : FormulaTold sigs s scope q (at + 1) one a m) where
-    pub formula-join-stop : {v : Bool} → one ≡ false → FormulaTold sigs s scope q at false v m
-    formula-join-stop z = record {
+  module _ {all : Bool} (k : kind ≡ Join all) {low : ℕ} {one a : Bool} {m : ℕ}
+      (first : FormulaTold sigs s low scope q (at + 1) one a m) where
+    pub formula-join-stop : {v : Bool} → limit ≤ low + 1 → one ≡ false → FormulaTold sigs s limit scope q at false v m
+    formula-join-stop b z = record {
       on = omega (arith, first .on);
-      tells = λ n l. told-join-stop (fit sigs scope) s (scope .count) q at _ m n l (h .inside) all (sym (h .named) ∙ k)
-          (rw z at (first .tells));
+      tells = λ n l. within-join-stop limit (fit sigs scope) s (scope .count) q at _ m n l (h .inside) all
+          (sym (h .named) ∙ k) b (rw z at (first .tells));
     }
 
-    pub formula-join : {ok b v : Bool} {e : ℕ} → one ≡ true → FormulaTold sigs s scope q m ok b e → v ≡ a && b
-        → FormulaTold sigs s scope q at ok v e
+    pub formula-join : {ok b v : Bool} {e : ℕ} → one ≡ true → FormulaTold sigs s limit scope q m ok b e → v ≡ a && b
+        → FormulaTold sigs s limit scope q at ok v e
     unfolding fits
     formula-join z second w = record {
       on = omega (arith, first .on, second .on);
-      tells = λ n l. told-join (fit sigs scope) s (scope .count) q at _ _ n l (h .inside) all (sym (h .named) ∙ k)
-          (first .on) (rw z at (first .tells)) (second .tells) (λ f g x y. w ∙ rw (x, y) (and-same _ _));
+      tells = λ n l. within-join limit (fit sigs scope) s (scope .count) q at _ _ n l (h .inside) all
+          (sym (h .named) ∙ k) (first .on) (rw z at (first .tells)) (second .tells) (λ f g x y. w ∙ rw (x, y) (and-same _ _));
     }
 
   module _ {all : Bool} (k : kind ≡ Quantifier all) where
-    pub formula-fifth : {v : Bool} → 4 ≤ q → FormulaTold sigs s scope q at false v at
+    pub formula-fifth : {v : Bool} → 4 ≤ q → FormulaTold sigs s limit scope q at false v at
     formula-fifth d = record {
       on = omega arith;
-      tells = λ n l. told-quantifier-deep (fit sigs scope) s (scope .count) q at _ at n l (h .inside) all
-          (sym (h .named) ∙ k) d;
+      tells = λ n l. within (told-quantifier-deep (fit sigs scope) s (scope .count) q at _ at n l (h .inside) all
+          (sym (h .named) ∙ k) d);
     }
 
     module _ (d : q < 4) {r : ℕ} (byte : r ≡ getD s (at + 1) 0) where
-      pub formula-quantifier-no : {v : Bool} → is-range r ≡ false → FormulaTold sigs s scope q at false v at
+      pub formula-quantifier-no : {v : Bool} → is-range r ≡ false → FormulaTold sigs s limit scope q at false v at
       formula-quantifier-no i = record {
         on = omega arith;
-        tells = λ n l. told-quantifier-no (fit sigs scope) s (scope .count) q at _ at n l (h .inside) all
-            (sym (h .named) ∙ k) d (rw byte at i);
+        tells = λ n l. within (told-quantifier-no (fit sigs scope) s (scope .count) q at _ at n l (h .inside) all
+            (sym (h .named) ∙ k) d (rw byte at i));
       }
 
       pub formula-quantifier : {inner : Scope} {ok v : Bool} {e : ℕ} → is-range r ≡ true
           → (inner .count ≡ scope .count + 1) × (seen inner ≡ seen scope ++ (r ∷ []))
-          → FormulaTold sigs s inner (q + 1) (at + 2) ok v e → FormulaTold sigs s scope q at ok v e
+          → FormulaTold sigs s limit inner (q + 1) (at + 2) ok v e → FormulaTold sigs s limit scope q at ok v e
       unfolding fits
       formula-quantifier i p t = record {
         on = omega (arith, t .on);
-        tells = λ n l. told-quantifier (fit sigs scope) s (scope .count) q at _ _ n l (h .inside) all
-            (sym (h .named) ∙ k) d (λ f. fits sigs f (seen scope ++ (r ∷ []))) (rw byte at i)
+        tells = λ n l. within-quantifier limit (fit sigs scope) s (scope .count) q at _ _ n l (h .inside)
+            (λ f. fits sigs f (seen scope ++ (r ∷ []))) all (sym (h .named) ∙ k) d (rw byte at i)
             (rw (p .1, p .0) at (t .tells)) (λ f w. w ∙ rw byte refl);
       }
 
   module _ {t : Test} (k : kind ≡ Compare t) {one : Bool} {a m : ℕ} (first : TermTold s scope (at + 1) one a m) where
-    pub formula-compare-stop : {v : Bool} → one ≡ false → FormulaTold sigs s scope q at false v m
+    pub formula-compare-stop : {v : Bool} → one ≡ false → FormulaTold sigs s limit scope q at false v m
     formula-compare-stop z = record {
       on = omega (arith, first .on);
-      tells = λ n l. told-compare (fit sigs scope) s (scope .count) q at _ m n l (h .inside) t (sym (h .named) ∙ k)
+      tells = λ n l. within (told-compare (fit sigs scope) s (scope .count) q at _ m n l (h .inside) t
+          (sym (h .named) ∙ k)
           (λ i j. told-compared-stop (λ x. term-range x (seen scope)) (fit sigs scope) i t s (scope .count) (at + 1)
-          (rw z at (first .tells i j)));
+          (rw z at (first .tells i j))));
     }
 
     pub formula-compare : {ok : Bool} {b e : ℕ} → one ≡ true → TermTold s scope m ok b e
-        → FormulaTold sigs s scope q at ok true e
+        → FormulaTold sigs s limit scope q at ok true e
     unfolding fits
     formula-compare z second = record {
       on = omega (arith, first .on, second .on);
-      tells = λ n l. told-compare (fit sigs scope) s (scope .count) q at true _ n l (h .inside) t (sym (h .named) ∙ k)
+      tells = λ n l. within (told-compare (fit sigs scope) s (scope .count) q at true _ n l (h .inside) t
+          (sym (h .named) ∙ k)
           (λ i j. told-compared (λ x. term-range x (seen scope)) (fit sigs scope) i t s (scope .count) (at + 1)
-          (rw z at (first .tells i j)) (second .tells i (omega (arith, first .on))) (λ x y _ _. refl));
+          (rw z at (first .tells i j)) (second .tells i (omega (arith, first .on))) (λ x y _ _. refl)));
     }
 
   pub formula-instance : {ok v : Bool} {e : ℕ} → kind ≡ Instance → InstanceTold sigs s scope (at + 1) ok v e
-      → FormulaTold sigs s scope q at ok v e
+      → FormulaTold sigs s limit scope q at ok v e
   formula-instance k t = record {
     on = omega (arith, t .on);
-    tells = λ n l. told-instance (fit sigs scope) s (scope .count) q at _ _ n l (h .inside) (sym (h .named) ∙ k) (t .tells);
+    tells = λ n l. within (told-instance (fit sigs scope) s (scope .count) q at _ _ n l (h .inside)
+        (sym (h .named) ∙ k) (t .tells));
   }

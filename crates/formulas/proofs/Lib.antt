@@ -4,5 +4,6 @@ pub mod Columns
 pub mod Bodies
 pub mod Signatures
 pub mod Decoded
+pub mod Limits
 pub mod Terms
 pub mod Formulas

@@ -1,6 +1,6 @@
 -- What the contracts of the formula reader's inner functions say; no definition of the documents' words is here.
 -- `Told` is two-sided: whether something was read, and where it was, where it ends and what v is of it.
-use Prim.Native.Nat.{ℕ, zero, suc, _+_, _-_, _*_, _≤_, min}
+use Prim.Native.Nat.{ℕ, zero, suc, _+_, _-_, _*_, _≤_, _<_, min}
 use mathlib.Core.Path.{_≡_}
 use mathlib.Core.Bool.{Bool, true, false, _&&_, cond}
 use mathlib.Core.List.{List, [], _∷_}
@@ -79,8 +79,16 @@ pub record InstanceTold (signatures : List (List ℕ)) (s : List ℕ) (scope : S
   pub tells : (n : ℕ) → length s ≤ n + at
       → Told (λ f. fits signatures f (seen scope)) v e (instance-at n s (scope .count) at) ok
 
-pub record FormulaTold (signatures : List (List ℕ)) (s : List ℕ) (scope : Scope) (q at : ℕ) (ok v : Bool)
-    (e : ℕ) : Type 0 where
+-- what is told where more must come after what is read: what ends past the limit may be refused. Where
+-- nothing must come, the limit is the end of all bytes, whose number is `size`, and nothing read is refused
+pub data ToldWithin {A B : Type 0} (limit size : ℕ) (d : A → B) (v : B) (e : ℕ)
+    : Parsed A → Bool → Type 0 where
+  within : {p : Parsed A} {ok : Bool} → Told d v e p ok → ToldWithin limit size d v e p ok
+  past : {a : A} {m : ℕ} → limit < size → limit < m → ToldWithin limit size d v e (some a m) false
+
+pub record FormulaTold (signatures : List (List ℕ)) (s : List ℕ) (limit : ℕ) (scope : Scope) (q at : ℕ)
+    (ok v : Bool) (e : ℕ) : Type 0 where
   pub on : at ≤ e
   pub tells : (n : ℕ) → length s ≤ n + at
-      → Told (λ f. fits signatures f (seen scope)) v e (formula-at n s (scope .count) q at) ok
+      → ToldWithin limit (length s) (λ f. fits signatures f (seen scope)) v e
+      (formula-at n s (scope .count) q at) ok

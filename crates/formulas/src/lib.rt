@@ -289,12 +289,22 @@ fn read_instance(body: &[u8], at: usize, first: usize, scope: Scope, signatures:
 }
 
 // The formula at `at`, with q quantifiers around it; `scope` has the ranges of the variables in reach.
-fn read_formula(body: &[u8], at: usize, scope: Scope, q: usize, signatures: &[u8; 41]) -> Span
-    requires { ⌜ (length (now body) ≤ 256) × ((scope .count ≤ 4 + q) × (q ≤ 4)) ⌝ }
-    ensures { λ r. ⌜ FormulaTold (signatures-in (now (signatures .entry))) (now (body .entry)) scope q at
-        (r .ok) (r .fits) (r .next) ⌝ }
+// What must still come after it takes the bytes from `limit` on, one at least for each formula.
+// So a formula that ends past `limit` may be refused, and the calls go no deeper than half the bytes.
+fn read_formula(
+    body: &[u8],
+    at: usize,
+    limit: usize,
+    scope: Scope,
+    q: usize,
+    signatures: &[u8; 41],
+) -> Span
+    requires { ⌜ (length (now body) ≤ 256) × ((limit ≤ length (now body)) ×
+        ((scope .count ≤ 4 + q) × (q ≤ 4))) ⌝ }
+    ensures { λ r. ⌜ FormulaTold (signatures-in (now (signatures .entry))) (now (body .entry)) limit scope q
+        at (r .ok) (r .fits) (r .next) ⌝ }
 {
-    if body.len() <= at {
+    if limit <= at {
         return result(false, false, at);
     }
     let code = digits::element(body, at);
@@ -304,13 +314,15 @@ fn read_formula(body: &[u8], at: usize, scope: Scope, q: usize, signatures: &[u8
         Kind::NoFormula => result(false, false, at),
         Kind::Constant(_) => result(true, true, next),
         Kind::Join(_) => {
-            let a = read_formula(body, at + 1, scope, q, signatures);
+            // In one place, for a small frame: the first operand, then the second.
+            let mut a = read_formula(body, at + 1, limit - 1, scope, q, signatures);
             let m = a.next;
             if !a.ok {
                 return result(false, false, m);
             }
-            let b = read_formula(body, m, scope, q, signatures);
-            result(b.ok, digits::and(a.fits, b.fits), b.next)
+            let fits = a.fits;
+            a = read_formula(body, m, limit, scope, q, signatures);
+            result(a.ok, digits::and(fits, a.fits), a.next)
         }
         Kind::Quantifier(_) => {
             if 4 <= q {
@@ -320,16 +332,16 @@ fn read_formula(body: &[u8], at: usize, scope: Scope, q: usize, signatures: &[u8
             if !is_range(r) {
                 return result(false, false, at);
             }
-            read_formula(body, at + 2, push(scope, r), q + 1, signatures)
+            read_formula(body, at + 2, limit, push(scope, r), q + 1, signatures)
         }
         Kind::Compare(_) => {
-            let a = read_term(body, at + 1, scope);
+            let mut a = read_term(body, at + 1, scope);
             let m = a.next;
             if !a.ok {
                 return result(false, false, m);
             }
-            let b = read_term(body, m, scope);
-            result(b.ok, true, b.next)
+            a = read_term(body, m, scope);
+            result(a.ok, true, a.next)
         }
         Kind::Instance => read_instance(body, at + 1, next, scope, signatures),
     }
@@ -381,7 +393,7 @@ fn read_body(text: &[u8], e: Equation, equations: [Equation; 8], count: usize) -
     }
     let body = digits::bytes_at(text, e.place, size);
     let signatures = signatures_of(equations, count);
-    read_formula(&body[..size], 0, parameters_of(e), 0, &signatures)
+    read_formula(&body[..size], 0, size, parameters_of(e), 0, &signatures)
 }
 
 // Whether the body of e is one formula.

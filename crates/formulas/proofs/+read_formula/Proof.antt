@@ -26,14 +26,14 @@ module _ (t : ℕ) where
     head : law.Head (start .args .body .now) (start .args .at) (start .args .at + (1 + c .before .wide .result))
         (c .kind-of .result)
     head = record {
-      inside = coded .before .if1 .left;
+      inside = omega (arith, coded .before .if1 .left, start .pre .1 .1 .0);
       ends = ap (λ (n : ℕ). start .args .at + (1 + n)) (c .before .wide .ensures .0 ∙
           c .before .before .operands-of .ensures ∙ ap operands-of (coded .element .ensures));
       named = c .kind-of .ensures ∙ ap kind-of (coded .element .ensures);
     }
 
-  past-the-end : formula.Need-returns (formula-calls t) (formula-at t) formula-post
-  past-the-end c = law.formula-answer (c .result .ensures) (law.formula-past (c .before .if1 .taken))
+  at-the-limit : formula.Need-returns (formula-calls t) (formula-at t) formula-post
+  at-the-limit c = law.formula-answer (c .result .ensures) (law.formula-late (c .before .if1 .taken))
 
   no-formula : formula.Need-returns-6 (formula-calls t) (formula-at t) formula-post
   no-formula c =
@@ -50,7 +50,7 @@ module _ (t : ℕ) where
       let first = c .before .before .before in
       law.formula-answer (c .result4 .ensures)
       (law.formula-join-stop (head (first .before .before .before)) (first .before .enum-told3 .given .1)
-      (first .read-formula .ensures) (not-true _ (c .before .if2 .taken)))
+      (first .read-formula .ensures) (omega arith) (not-true _ (c .before .if2 .taken)))
 
   a-join : formula.Need-returns-8 (formula-calls t) (formula-at t) formula-post
   a-join c =
@@ -120,11 +120,12 @@ pub +read-formula-spec : {M : Type 1} → cycle.statement M
 +read-formula-spec =
     cycle.Tie.close μ-formula
     (λ t. formula.spec (formula-calls t) (formula-at t) formula-post
-    (λ c κs. search needs) (past-the-end t)
+    (λ c κs. search needs) (at-the-limit t)
     (λ c κs. search needs) (λ c κs. search needs) (λ c κs. search needs) (λ c. search needs) (λ c. search needs)
     (λ c κs. search needs) (λ c. search needs) (λ c κs. search needs) (λ c. search needs) (λ c κs. search needs)
-    (λ c. search needs) (λ c. search needs) (λ c κs. omega arith) (λ c κs. search needs) (join-stopped t)
-    (λ c κs. omega (arith, c .before .before .read-formula .ensures .on)) (λ c κs. search needs) (λ c κs. search needs)
+    (λ c. search needs) (λ c. search needs) (λ c. search needs) (λ c κs. omega arith) (λ c κs. search needs) (join-stopped t)
+    (λ c κs. omega (arith, law.formula-on (c .before .before .read-formula .ensures) (not-false _ (c .if2 .left))))
+    (λ c κs. search needs) (λ c κs. search needs)
     (λ c. search needs) (λ c κs. search needs) (a-fifth t) (λ c. search needs) (λ c κs. search needs)
     (λ c κs. search needs) (λ c κs. search needs) (no-range t) (λ c. search needs) (λ c κs. search needs)
     (λ c. search needs) (λ c κs. omega (arith, pushed t c .0)) (λ c. search needs) (λ c. search needs)

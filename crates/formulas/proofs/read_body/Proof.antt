@@ -4,6 +4,7 @@ use mathlib.Core.Path.{_≡_, sym, ap, _∙_}
 use lib.ListN.{length, take}
 use lib.Seq.{length-take-le}
 use Rattle.digits.proofs.Filled.{padded-first}
+use Rattle.formulas.proofs.Limits.{told-whole}
 use Rattle.formulas.proofs.Bodies.{body-long, body-read}
 use borrow.Author.Needs.{needs}
 use native.Mathlib.Omega.{arith}
@@ -25,7 +26,7 @@ taken c =
 a-part : tie.Need-read-formula-requires
 a-part c κs =
     let decoded = c .before .before .before .before in
-    (rw (taken decoded) (decoded .before .if1 .left), omega (arith, c .before .parameters-of .ensures .1 .1))
+    (rw (taken decoded) (decoded .before .if1 .left), omega (arith, taken decoded, c .before .parameters-of .ensures .1 .1))
 
 the-body : tie.Need-returns-2
 the-body c =
@@ -37,7 +38,8 @@ the-body c =
     padded-first (a .text .now) (a .e .place) (a .e .length) (few .if1 .left) in
     let p = scope .parameters-of .ensures in
     body-read (a .text .now) (a .e) (a .equations) (a .count) (few .if1 .left) (table .signatures-of .ensures) bytes (p .0)
-    (p .1 .0) (c .read-formula .ensures .tells (a .e .length) (omega (arith, taken (table .before))))
+    (p .1 .0) (told-whole (omega (arith, taken (table .before)))
+    (c .read-formula .ensures .tells (a .e .length) (omega (arith, taken (table .before)))))
 
 pub read-body-spec : {M : Type 1} → statement M
 read-body-spec =

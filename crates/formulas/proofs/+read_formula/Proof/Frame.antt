@@ -1,8 +1,7 @@
 -- The frame of the cycle {read_formula}, as a check prints it. Nothing is argued here.
 -- The measure, the contract at and below a measure, and what the function knows of those it calls.
-use Prim.Native.Nat.{ℕ, _-_, _<_}
+use Prim.Native.Nat.{ℕ, _+_, _-_, _/_, _<_}
 use mathlib.Core.Path.{_≡_}
-use lib.ListN.{length}
 use borrow.Fn.Kinds.{In, Out}
 use borrow.Fn.PlainCycle.{Measures}
 use Rattle.formulas.proofs.+read_formula.Lts-read_formula as formula
@@ -19,9 +18,9 @@ use Rattle.formulas.proofs.read_instance.Reads as read-instance-reads
 use Rattle.formulas.proofs.read_term.Reads as read-term-reads
 use Rattle.formulas.proofs.result.Reads as result-reads
 
--- what is left of the body
+-- half of what is left up to the limit: the calls go no deeper
 abbrev pub μ-formula : Measures 2 of-formula.ps ℕ
-μ-formula κs a = length (a .0 .now) - a .1 .0
+μ-formula κs a = (a .1 .1 .0 - a .1 .0 + 1) / 2
 
 abbrev pub formula-post : Out 2 of-formula.ps of-formula.r
 formula-post = read-formula.Post
