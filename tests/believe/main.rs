@@ -83,8 +83,9 @@ fn as_specs(code: &str) -> String {
         }
         let head = lines().next().unwrap_or("");
         if head.starts_with("pub ") && one_of("fn", head) {
+            // a function's name is no word of specs
             let text = lines().take_while(|l| *l != "{").collect::<Vec<_>>().join("\n  ");
-            specs += &format!("pub {}\n", text.split("fn ").nth(1).unwrap_or("").replacen('(', " : (", 1));
+            specs += &format!("pub fn·{}\n", text.split("fn ").nth(1).unwrap_or("")).replacen('(', " : (", 1);
         } else if one_of("struct", head) || one_of("enum", head) {
             specs += &format!("\n{}\n", paragraph.replace("\n    ", "\n  ").replace("\n}", "\n  }"));
         }
