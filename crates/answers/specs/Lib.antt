@@ -1,4 +1,4 @@
--- what a reader has to believe
+-- the definitions
 pub mod Answers
 pub mod Printed
 -- the promises

@@ -1,7 +1,9 @@
-// What comes back for a text: the struct of every answer. Its definitions and the theorems over them stand in specs/.
+// What comes back for a text: the struct of every answer. Its definitions and the theorems over them stand
+// in specs/.
 
 // Number and line are 0 on a verdict; on a refusal everything else is 0. verdict: 1 holds, 0 fails.
-// reached and trues count the reached instances and those of them that are true; truth has instance j as bit j % 64 of word j / 64.
+// reached and trues count the reached instances and those of them that are true; truth has instance j as
+// bit j % 64 of word j / 64.
 pub struct Answer {
     pub number: u8,
     pub line: usize,

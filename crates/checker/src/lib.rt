@@ -12,7 +12,8 @@ use answers::Answer;
 use formulas::Equation;
 use reading::Model;
 
-// An equation as reading lends it: absent ranges are 1; place is that of the body's first digit in the text, length the body's bytes.
+// An equation as reading lends it: absent ranges are 1; place is that of the body's first digit in the text,
+// length the body's bytes.
 pub struct Record {
     pub sign: u8,
     pub k: u8,
@@ -45,14 +46,16 @@ pub fn read(text: &[u8], records: &mut [Record]) -> ReadAnswer
 
 // Checks a text: fills the lent records, writes the reached instances into the lent table and answers.
 pub fn check(text: &[u8], records: &mut [Record], table: &mut [u32]) -> Answer
-    ensures { λ r. ⌜ Checked (now (text .entry)) (now (records .entry)) (now (table .entry)) r (now (records .exit)) (now (table .exit)) ⌝ }
+    ensures { λ r. ⌜ Checked (now (text .entry)) (now (records .entry)) (now (table .entry)) r
+        (now (records .exit)) (now (table .exit)) ⌝ }
 {
     let p = prepare_check(text, records.len(), table);
     fill(records, p.records, p.count);
     tell(p)
 }
 
-// For the image builder, in C: writes what the checking program prints for a text into the lent buffer and gives the number of bytes written.
+// For the image builder, in C: writes what the checking program prints for a text into the lent buffer and
+// gives the number of bytes written.
 // A buffer under 7,693 bytes, which is what the longest answer takes, gives 0 and stays.
 #[no_mangle]
 pub extern "C" fn devashtor_check(text: &[u8], out: &mut [u8]) -> usize

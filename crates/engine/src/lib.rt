@@ -14,9 +14,11 @@ ghost use Rattle.truth.specs.Bits.{bit-of, nowhere, count-below};
 ghost use Rattle.engine.specs.Decoded.{Decoded};
 ghost use Rattle.engine.specs.Examined.{Judged};
 ghost use Rattle.engine.specs.Found.{model-in, instance-in, left-in, Searchable, Found};
-ghost use Rattle.engine.specs.Gathered.{settled, is-open, Gatherable, GatherMeets, FoldGathers, OpenMeets, words-left};
+ghost use Rattle.engine.specs.Gathered.{settled, is-open, Gatherable};
+ghost use Rattle.engine.specs.Gathered.{GatherMeets, FoldGathers, OpenMeets, words-left};
 ghost use Rattle.engine.specs.Kept.{filled-of, stock, Kept, Adds};
-ghost use Rattle.engine.specs.Sides.{Ready, is-true, side-of, sides, set-equation, numbered-system, first-values, FewEquations, AllReady};
+ghost use Rattle.engine.specs.Sides.{Ready, is-true, side-of, sides, set-equation};
+ghost use Rattle.engine.specs.Sides.{numbered-system, first-values, FewEquations, AllReady};
 ghost use Rattle.engine.specs.Solved.{Unsolved, solved};
 ghost use Rattle.engine.specs.Stock.{add};
 use answers::Answer;
@@ -75,7 +77,8 @@ fn filled_by(room: usize, n: usize) -> Filled
     }
 }
 
-// Adds a word behind the n found, unless it is there, and gives their number then: one more than the room, where there is none for it.
+// Adds a word behind the n found, unless it is there, and gives their number then: one more than the room,
+// where there is none for it.
 fn add_word(table: &mut [u32], room: usize, n: usize, w: u32) -> usize
     requires { ⌜ (n ≤ room + 1) × (room ≤ length (now table)) ⌝ }
     ensures { λ r. ⌜ Adds room (now (table .entry)) (now (table .exit)) n r w ⌝ }
@@ -131,8 +134,9 @@ fn is_settled(kind: Kind, within: bool, all: bool) -> bool
     }
 }
 
-// Whether something may be left of the formula of this kind at a place, and where it ends where nothing is: it is settled, or
-// its value is open where nothing is known of any instance. `none` is any set: an empty table asks nothing of it.
+// Whether something may be left of the formula of this kind at a place, and where it ends where nothing is:
+// it is settled, or its value is open where nothing is known of any instance. `none` is any set: an empty
+// table asks nothing of it.
 fn opened(
     body: &[u8],
     at: usize,
@@ -168,8 +172,8 @@ fn opened(
     }
 }
 
-// Adds the instances that are left in the formula at a place to the words found, and gives the place after it.
-// Where it stands within a connective that nothing decides, `all` says which.
+// Adds the instances that are left in the formula at a place to the words found, and gives the place after
+// it. Where it stands within a connective that nothing decides, `all` says which.
 fn gather(
     body: &[u8],
     at: usize,
@@ -183,7 +187,8 @@ fn gather(
     found: &mut usize,
 ) -> usize
     requires { ⌜ Gatherable scope q room (now table) (now found) ⌝ }
-    ensures { λ r. ⌜ GatherMeets room (now (body .entry)) at scope q within all (now (table .entry)) (now (table .exit)) (now (found .entry)) (now (found .exit)) r ⌝ }
+    ensures { λ r. ⌜ GatherMeets room (now (body .entry)) at scope q within all (now (table .entry))
+        (now (table .exit)) (now (found .entry)) (now (found .exit)) r ⌝ }
 {
     if body.len() <= at {
         return at;
@@ -249,7 +254,8 @@ fn gather_fold(
     found: &mut usize,
 ) -> usize
     requires { ⌜ Gatherable scope q room (now table) (now found) × ((q < 4) × (x + more ≤ 255)) ⌝ }
-    ensures { λ r. ⌜ FoldGathers room (now (body .entry)) at scope q all x more (now (table .entry)) (now (table .exit)) (now (found .entry)) (now (found .exit)) r ⌝ }
+    ensures { λ r. ⌜ FoldGathers room (now (body .entry)) at scope q all x more (now (table .entry))
+        (now (table .exit)) (now (found .entry)) (now (found .exit)) r ⌝ }
 {
     if more <= 1 {
         let inner = formulas::push(scope, x);
@@ -281,8 +287,11 @@ fn gather_side(
     room: usize,
     s: Filled,
 ) -> Filled
-    requires { ⌜ Ready (now bodies) equations w × (s .count ≤ room) × (room ≤ length (now table)) × (s .over ≡ false) ⌝ }
-    ensures { λ r. ⌜ Kept room (now (table .entry)) (now (table .exit)) s r × (stock (now (table .exit)) r ≡ add room (stock (now (table .entry)) s) (words-left (left-in (now (bodies .entry)) equations w))) ⌝ }
+    requires { ⌜ Ready (now bodies) equations w × (s .count ≤ room) × (room ≤ length (now table)) ×
+        (s .over ≡ false) ⌝ }
+    ensures { λ r. ⌜ Kept room (now (table .entry)) (now (table .exit)) s r ×
+        (stock (now (table .exit)) r ≡ add room (stock (now (table .entry)) s)
+        (words-left (left-in (now (bodies .entry)) equations w))) ⌝ }
 {
     let e = (w / 65536) as usize;
     let equation = equations[e];
@@ -317,7 +326,8 @@ fn find(
     room: usize,
 ) -> Filled
     requires { ⌜ Searchable (now bodies) equations count start × (room ≤ length (now table)) ⌝ }
-    ensures { λ r. ⌜ Found (model-in (now (bodies .entry)) equations count) (instance-in equations start) room (now (table .entry)) (now (table .exit)) r ⌝ }
+    ensures { λ r. ⌜ Found (model-in (now (bodies .entry)) equations count) (instance-in equations start)
+        room (now (table .entry)) (now (table .exit)) r ⌝ }
 {
     if room == 0 {
         return Filled {
@@ -368,7 +378,8 @@ fn right_side(
     truth: &[u64; 8],
 ) -> Value
     requires { ⌜ Ready (now bodies) equations w ⌝ }
-    ensures { λ r. ⌜ r ≡ side-of (now (bodies .entry)) equations (now (table .entry)) (bit-of (now (truth .entry))) w ⌝ }
+    ensures { λ r. ⌜ r ≡ side-of (now (bodies .entry)) equations (now (table .entry))
+        (bit-of (now (truth .entry))) w ⌝ }
 {
     let e = (w / 65536) as usize;
     let equation = equations[e];
@@ -378,10 +389,12 @@ fn right_side(
     evaluator::evaluate(&bodies[first..end], scope_of(w, k), table, truth)
 }
 
-// Every instance at the constant of its equation's sign: false for least, true for greatest; of the first `count` equations.
+// Every instance at the constant of its equation's sign: false for least, true for greatest; of the first
+// `count` equations.
 fn first_values(equations: [Equation; 8], count: usize, table: &[u32]) -> [u64; 8]
     requires { ⌜ FewEquations (now table) ⌝ }
-    ensures { λ r. ⌜ bit-of r ≡ first-values equations count (now (table .entry)) (length (now (table .entry))) ⌝ }
+    ensures { λ r. ⌜ bit-of r ≡ first-values equations count (now (table .entry))
+        (length (now (table .entry))) ⌝ }
 {
     let mut s = truth::none();
     let mut j: usize = 0;
@@ -405,7 +418,8 @@ fn step(
     current: [u64; 8],
 ) -> [u64; 8]
     requires { ⌜ AllReady (now bodies) equations (now table) ⌝ }
-    ensures { λ r. ⌜ bit-of r ≡ set-equation (now (table .entry)) e (sides (now (bodies .entry)) equations (now (table .entry)) (bit-of inner)) (bit-of current) ⌝ }
+    ensures { λ r. ⌜ bit-of r ≡ set-equation (now (table .entry)) e
+        (sides (now (bodies .entry)) equations (now (table .entry)) (bit-of inner)) (bit-of current) ⌝ }
 {
     let mut s = current;
     let mut j: usize = 0;
@@ -421,9 +435,10 @@ fn step(
     s
 }
 
-// The equations from e on, solved in the set t, where they are at their first values: for each candidate of equation e the
-// later ones anew. `current` keeps their first values, since a step changes equation e's instances alone; to go on from
-// `inner` would carry values over from which the fixed point for the next candidate can't be reached.
+// The equations from e on, solved in the set t, where they are at their first values: for each candidate of
+// equation e the later ones anew. `current` keeps their first values, since a step changes equation e's
+// instances alone; to go on from `inner` would carry values over from which the fixed point for the next
+// candidate can't be reached.
 fn solve(
     bodies: &[u8],
     equations: [Equation; 8],
@@ -432,8 +447,10 @@ fn solve(
     e: usize,
     t: [u64; 8],
 ) -> [u64; 8]
-    requires { ⌜ AllReady (now bodies) equations (now table) × (e ≤ count) × (count ≤ 8) × Unsolved (numbered-system (now bodies) equations (now table)) count e (bit-of t) ⌝ }
-    ensures { λ r. ⌜ bit-of r ≡ solved (numbered-system (now (bodies .entry)) equations (now (table .entry))) (count - e) e (bit-of t) ⌝ }
+    requires { ⌜ AllReady (now bodies) equations (now table) × (e ≤ count) × (count ≤ 8) ×
+        Unsolved (numbered-system (now bodies) equations (now table)) count e (bit-of t) ⌝ }
+    ensures { λ r. ⌜ bit-of r ≡ solved (numbered-system (now (bodies .entry)) equations (now (table .entry)))
+        (count - e) e (bit-of t) ⌝ }
 {
     if e == count {
         return t;
@@ -455,7 +472,8 @@ fn solve(
 // All equations solved.
 fn solution_of(bodies: &[u8], equations: [Equation; 8], count: usize, table: &[u32]) -> [u64; 8]
     requires { ⌜ AllReady (now bodies) equations (now table) × (count ≤ 8) ⌝ }
-    ensures { λ r. ⌜ bit-of r ≡ solved (numbered-system (now (bodies .entry)) equations (now (table .entry))) count 0 nowhere ⌝ }
+    ensures { λ r. ⌜ bit-of r ≡ solved (numbered-system (now (bodies .entry)) equations (now (table .entry)))
+        count 0 nowhere ⌝ }
 {
     let first = first_values(equations, count, table);
     solve(bodies, equations, count, table, 0, first)
@@ -497,7 +515,15 @@ fn bit_of(b: bool) -> u8
 
 // The verdict over n instances of which the set has the true ones: that of the first.
 fn judge(n: usize, truth: [u64; 8]) -> Answer
-    ensures { λ r. ⌜ r ≡ record { number = 0; line = 0; verdict = bit (bit-of truth 0); reached = n; trues = count-below 512 (bit-of truth); truth = truth } ⌝ }
+    ensures { λ r. ⌜ r ≡ record {
+      number = 0;
+      line = 0;
+      verdict = bit (bit-of truth 0);
+      reached = n;
+      trues =
+          count-below 512 (bit-of truth);
+      truth = truth;
+    } ⌝ }
 {
     let first = truth::has(truth, 0);
     let trues = truth::count(truth);
@@ -557,7 +583,9 @@ fn examine_model(text: &[u8], model: Model, table: &mut [u32]) -> Answer
 
 // The whole check of a text with a lent table.
 pub fn examine(text: &[u8], table: &mut [u32]) -> Examined
-    ensures { λ r. ⌜ (r .answer ≡ answer (now (text .entry)) (length (now (table .entry)))) × (r .model ≡ reading (now (text .entry)) .model) × (now (table .exit) ≡ table-after (now (text .entry)) (now (table .entry))) ⌝ }
+    ensures { λ r. ⌜ (r .answer ≡ answer (now (text .entry)) (length (now (table .entry)))) ×
+        (r .model ≡ reading (now (text .entry)) .model) ×
+        (now (table .exit) ≡ table-after (now (text .entry)) (now (table .entry))) ⌝ }
 {
     let r = reading::read_model(text);
     let number = r.number;

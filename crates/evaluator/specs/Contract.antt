@@ -1,5 +1,5 @@
--- What the contracts of the evaluator's inner functions say; no definition of the documents' words stands here.
--- Whether something was read at a place, and where it was, what its value is and where it ends; `on` is what the end of the recursion hangs on.
+-- What the contracts of the evaluator's inner functions say; none of the documents' words is defined here.
+-- Whether something was read at a place, its value and its end; `on` is what the end of the recursion hangs on.
 use Prim.Native.Nat.{ℕ, _+_, _≤_}
 use mathlib.Core.Bool.{Bool}
 use mathlib.Core.List.{List, [], _∷_, _++_}
@@ -22,23 +22,27 @@ pub record TermMeets (s : List ℕ) (at : ℕ) (scope : Scope) (ok : Bool) (v e 
       → Told (λ t. meaning.value t (seen scope)) v e (term-at n s (scope .count) at) ok
 
 -- the values of c terms, put after those in `got`
-pub record TermsMeet (s : List ℕ) (at : ℕ) (scope : Scope) (c : ℕ) (got : Scope) (ok : Bool) (v : Scope) (e : ℕ) : Type 0 where
+pub record TermsMeet (s : List ℕ) (at : ℕ) (scope : Scope) (c : ℕ) (got : Scope) (ok : Bool) (v : Scope)
+    (e : ℕ) : Type 0 where
   pub on : at ≤ e
   pub tells : (n : ℕ) → length s ≤ n + at
       → Told (λ ts. seen got ++ values ts (seen scope)) (seen v) e (terms-at n c s (scope .count) at) ok
 
-pub record CompareMeets (t : Test) (s : List ℕ) (at : ℕ) (scope : Scope) (ok : Bool) (v : Value) (e : ℕ) : Type 0 where
+pub record CompareMeets (t : Test) (s : List ℕ) (at : ℕ) (scope : Scope) (ok : Bool) (v : Value) (e : ℕ) :
+    Type 0 where
   pub on : at ≤ e
   pub tells : (σ : ℕ → Value) (n : ℕ) → length s ≤ n + at
       → Told (λ f. valued f σ (seen scope)) v e (compared-at n t s (scope .count) at) ok
 
-pub record InstanceMeets (σ : ℕ → Value) (s : List ℕ) (at : ℕ) (scope : Scope) (ok : Bool) (v : Value) (e : ℕ) : Type 0 where
+pub record InstanceMeets (σ : ℕ → Value) (s : List ℕ) (at : ℕ) (scope : Scope) (ok : Bool) (v : Value)
+    (e : ℕ) : Type 0 where
   pub on : at ≤ e
   pub tells : (n : ℕ) → length s ≤ n + at
       → Told (λ f. valued f σ (seen scope)) v e (instance-at n s (scope .count) at) ok
 
 -- q quantifiers stand around the place
-pub record FormulaMeets (σ : ℕ → Value) (s : List ℕ) (at : ℕ) (scope : Scope) (q : ℕ) (ok : Bool) (v : Value) (e : ℕ) : Type 0 where
+pub record FormulaMeets (σ : ℕ → Value) (s : List ℕ) (at : ℕ) (scope : Scope) (q : ℕ) (ok : Bool) (v : Value)
+    (e : ℕ) : Type 0 where
   pub on : at ≤ e
   pub tells : (n : ℕ) → length s ≤ n + at
       → Told (λ f. valued f σ (seen scope)) v e (formula-at n s (scope .count) q at) ok
@@ -47,7 +51,8 @@ pub record FormulaMeets (σ : ℕ → Value) (s : List ℕ) (at : ℕ) (scope : 
 abbrev pub folded : (ℕ → Value) → List ℕ → Bool → ℕ → ℕ → Formula → Value
 folded σ v all x left f = over (join-value all) (known all) x left (λ i. valued f σ (v ++ (i ∷ [])))
 
-pub record FoldMeets (σ : ℕ → Value) (s : List ℕ) (at : ℕ) (scope : Scope) (q : ℕ) (all : Bool) (x left : ℕ) (ok : Bool) (v : Value) (e : ℕ) : Type 0 where
+pub record FoldMeets (σ : ℕ → Value) (s : List ℕ) (at : ℕ) (scope : Scope) (q : ℕ) (all : Bool) (x left : ℕ)
+    (ok : Bool) (v : Value) (e : ℕ) : Type 0 where
   pub on : at ≤ e
   pub tells : (n : ℕ) → length s ≤ n + at
       → Told (folded σ (seen scope) all x left) v e (formula-at n s (scope .count + 1) (q + 1) at) ok

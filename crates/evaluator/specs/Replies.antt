@@ -1,5 +1,5 @@
--- DEFINITIONS: what the evaluator replies, for all inputs: the value of a formula, the word of an instance, read at a place.
--- Where nothing can be read the reply says so; what is read ends past its place. n bounds how deep the decoder goes: as many as the bytes left is enough.
+-- DEFINITIONS: what the evaluator replies, for all inputs: a formula's value, an instance's word, read at a place.
+-- Where nothing can be read the reply says so. n bounds how deep the decoder goes: the bytes left are enough.
 use Prim.Native.Nat.{ℕ, _+_, _≤_}
 use mathlib.Core.Path.{_≡_}
 use mathlib.Core.Bool.{true, false}
@@ -19,7 +19,7 @@ use Rattle.evaluator.specs.declared.Valued.{Valued}
 use Rattle.evaluator.specs.declared.WordAt.{WordAt}
 use Rattle.evaluator.specs.Values.{valued}
 
--- the formula at a place, with q quantifiers around it: "parameter count k (0 to 4)", so at most 4 + q variables are in reach
+-- the formula at a place, with q quantifiers around it: "parameter count k (0 to 4)", so at most 4 + q variables
 abbrev pub formula-there : ℕ → List ℕ → Scope → ℕ → ℕ → Parsed Formula
 formula-there n s scope q at = when (leb (scope .count) (4 + q)) (formula-at n s (scope .count) q at)
 
@@ -31,7 +31,8 @@ value-reply d none = no-value 0
 value-reply d (some f e) = record { ok = true; value = d f; next = e }
 
 -- r is the value of the formula at `at`, where σ gives the value of each instance's word
-pub record ValueReply (σ : ℕ → Value) (s : List ℕ) (at : ℕ) (scope : Scope) (q : ℕ) (r : Valued) : Type 0 where
+pub record ValueReply (σ : ℕ → Value) (s : List ℕ) (at : ℕ) (scope : Scope) (q : ℕ) (r : Valued)
+    : Type 0 where
   pub on : r .ok ≡ true → at ≤ r .next
   pub replies : (n : ℕ) → length s ≤ n + at
       → r ≡ value-reply (λ f. valued f σ (seen scope)) (formula-there n s scope q at)

@@ -1,5 +1,5 @@
-// The value of a formula over the bytes of a body: a formula calls on a quantifier's fold, which calls on the formula
-// inside it. A table of words says which instances have a number, and a set which of these are true.
+// The value of a formula over the bytes of a body: a formula calls on a quantifier's fold, which calls on the
+// formula inside it. A table of words says which instances have a number, and a set which of these are true.
 ghost use mathlib.Core.Path.{_≡_};
 ghost use mathlib.Core.Bool.{true, false};
 ghost use mathlib.Core.List.{_∷_};
@@ -11,7 +11,8 @@ ghost use Rattle.formulas.specs.Decode.{test-of};
 ghost use Rattle.formulas.specs.Scopes.{seen};
 ghost use Rattle.evaluator.specs.Values.{known, join-value, decides, index-of, assignment};
 ghost use Rattle.evaluator.specs.Replies.{no-value, ValueReply, no-word, WordReply, body-value};
-ghost use Rattle.evaluator.specs.Contract.{TermMeets, TermsMeet, CompareMeets, InstanceMeets, FormulaMeets, FoldMeets};
+ghost use Rattle.evaluator.specs.Contract.{TermMeets, TermsMeet, CompareMeets};
+ghost use Rattle.evaluator.specs.Contract.{InstanceMeets, FormulaMeets, FoldMeets};
 use digits::element;
 use digits::wide;
 use formulas::Kind;
@@ -325,7 +326,8 @@ fn value_of(table: &[u32], truth: &[u64; 8], w: u32) -> Value
 // The value of the instance whose equation stands at `at`.
 fn instance(body: &[u8], at: usize, scope: Scope, table: &[u32], truth: &[u64; 8]) -> Valued
     requires { ⌜ at ≤ length (now body) ⌝ }
-    ensures { λ r. ⌜ InstanceMeets (assignment (now (table .entry)) (now (truth .entry))) (now (body .entry)) at scope (r .ok) (r .value) (r .next) ⌝ }
+    ensures { λ r. ⌜ InstanceMeets (assignment (now (table .entry)) (now (truth .entry))) (now (body .entry))
+        at scope (r .ok) (r .value) (r .next) ⌝ }
 {
     let a = word_at(body, at, scope);
     if !a.ok {
@@ -341,7 +343,8 @@ fn instance(body: &[u8], at: usize, scope: Scope, table: &[u32], truth: &[u64; 8
 // The value of the formula that stands at `at`, with q quantifiers around it.
 fn value_in(body: &[u8], at: usize, scope: Scope, q: u8, table: &[u32], truth: &[u64; 8]) -> Valued
     requires { ⌜ scope .count ≤ 4 + q ⌝ }
-    ensures { λ r. ⌜ FormulaMeets (assignment (now (table .entry)) (now (truth .entry))) (now (body .entry)) at scope q (r .ok) (r .value) (r .next) ⌝ }
+    ensures { λ r. ⌜ FormulaMeets (assignment (now (table .entry)) (now (truth .entry))) (now (body .entry))
+        at scope q (r .ok) (r .value) (r .next) ⌝ }
 {
     if body.len() <= at {
         return no_formula(at);
@@ -385,8 +388,9 @@ fn value_in(body: &[u8], at: usize, scope: Scope, q: u8, table: &[u32], truth: &
     }
 }
 
-// The `and` (the `or`, where `all` is false) of the values that the formula at `at` has where one more variable has the
-// values v, v + 1, .., `left` of them: by halves, the first half first; the second is left out where the first decides.
+// The `and` (the `or`, where `all` is false) of the values that the formula at `at` has where one more
+// variable has the values v, v + 1, .., `left` of them: by halves, the first half first; the second is left
+// out where the first decides.
 fn fold(
     body: &[u8],
     at: usize,
@@ -399,7 +403,8 @@ fn fold(
     truth: &[u64; 8],
 ) -> Valued
     requires { ⌜ (v + left ≤ 255) × ((0 < left) × ((q < 4) × (scope .count ≤ 4 + q))) ⌝ }
-    ensures { λ r. ⌜ FoldMeets (assignment (now (table .entry)) (now (truth .entry))) (now (body .entry)) at scope q all v left (r .ok) (r .value) (r .next) ⌝ }
+    ensures { λ r. ⌜ FoldMeets (assignment (now (table .entry)) (now (truth .entry))) (now (body .entry)) at
+        scope q all v left (r .ok) (r .value) (r .next) ⌝ }
 {
     if left <= 1 {
         return value_in(body, at, push(scope, v), q + 1, table, truth);
@@ -422,7 +427,8 @@ fn fold(
     }
 }
 
-// The value of the formula that stands at `at`, with q quantifiers around it; at most four variables in reach are parameters.
+// The value of the formula that stands at `at`, with q quantifiers around it; at most four variables in
+// reach are parameters.
 pub fn value_at(
     body: &[u8],
     at: usize,
@@ -431,7 +437,8 @@ pub fn value_at(
     table: &[u32],
     truth: &[u64; 8],
 ) -> Valued
-    ensures { λ r. ⌜ ValueReply (assignment (now (table .entry)) (now (truth .entry))) (now (body .entry)) at scope q r ⌝ }
+    ensures { λ r. ⌜ ValueReply (assignment (now (table .entry)) (now (truth .entry))) (now (body .entry)) at
+        scope q r ⌝ }
 {
     if 4 + wide(q) < scope.count {
         return no_formula(0);
@@ -442,7 +449,8 @@ pub fn value_at(
 
 // The value of a body, which is one formula; false where it is none.
 pub fn evaluate(body: &[u8], scope: Scope, table: &[u32], truth: &[u64; 8]) -> Value
-    ensures { λ r. ⌜ r ≡ body-value (assignment (now (table .entry)) (now (truth .entry))) (now (body .entry)) scope ⌝ }
+    ensures { λ r. ⌜ r ≡ body-value (assignment (now (table .entry)) (now (truth .entry)))
+        (now (body .entry)) scope ⌝ }
 {
     let a = value_at(body, 0, scope, 0, table, truth);
     a.value

@@ -1,4 +1,5 @@
-// The reader of formulas: whether the bytes of a body are one formula, and whether the instances in it fit the equations.
+// The reader of formulas: whether the bytes of a body are one formula, and whether the instances in it fit
+// the equations.
 ghost use mathlib.Core.Bool.{true, false};
 ghost use mathlib.Core.Path.{_≡_};
 ghost use mathlib.Core.List.{[], _∷_, _++_};
@@ -12,7 +13,8 @@ ghost use Rattle.formulas.specs.Contract.{kind-numbered, term-kind-numbe
 ghost use Rattle.formulas.specs.Contract.{part, signature-byte, signatures-in};
 ghost use Rattle.formulas.specs.Contract.{Told, TermTold, ArgumentsTold, InstanceTold, FormulaTold};
 
-// An equation's record. Absent ranges are 1; `place` is that of the body's first digit in the text, `length` the body's in bytes.
+// An equation's record. Absent ranges are 1; `place` is that of the body's first digit in the text, `length`
+// the body's in bytes.
 pub struct Equation {
     pub sign: u8,
     pub k: u8,
@@ -86,7 +88,8 @@ struct TermSpan {
     next: usize,
 }
 
-// Whether a formula was read, or some arguments; whether the instances in it fit, or the arguments; where it ends.
+// Whether a formula was read, or some arguments; whether the instances in it fit, or the arguments; where it
+// ends.
 struct Span {
     ok: bool,
     fits: bool,
@@ -155,7 +158,8 @@ pub fn operands_of(code: u8) -> u8
 
 // One more variable in reach, after those that are there.
 pub fn push(scope: Scope, value: u8) -> Scope
-    ensures { λ r. ⌜ (r ≡ pushed scope value) × (scope .count < 8 → (r .count ≡ scope .count + 1) × (seen r ≡ seen scope ++ (value ∷ []))) ⌝ }
+    ensures { λ r. ⌜ (r ≡ pushed scope value) ×
+        (scope .count < 8 → (r .count ≡ scope .count + 1) × (seen r ≡ seen scope ++ (value ∷ []))) ⌝ }
 {
     let mut s = scope;
     let n = s.count;
@@ -385,7 +389,8 @@ fn signatures_of(equations: [Equation; 8], count: usize) -> [u8; 41]
 
 // What stands in the body of e.
 fn read_body(text: &[u8], e: Equation, equations: [Equation; 8], count: usize) -> Span
-    ensures { λ r. ⌜ Told (λ f. fits (signatures-of equations count) f (ranges-of e)) (r .fits) (r .next) (body-at (now (text .entry)) e) (r .ok) ⌝ }
+    ensures { λ r. ⌜ Told (λ f. fits (signatures-of equations count) f (ranges-of e)) (r .fits) (r .next)
+        (body-at (now (text .entry)) e) (r .ok) ⌝ }
 {
     let size = e.length;
     if 256 < size {

@@ -6,7 +6,8 @@ ghost use lib.Seq.{sets};
 ghost use Rattle.digits.specs.Digits.{digits-of};
 ghost use Rattle.answers.specs.Printed.{line-of, verdict-frame, refusal-frame};
 ghost use Rattle.printing.specs.Promise.{Written};
-ghost use Rattle.printing.specs.Lines.{Puts, bytes-of, parameters-of, word-frame, lines-of, Readable, Printable, text-of};
+ghost use Rattle.printing.specs.Lines.{Puts, bytes-of, parameters-of, word-frame, lines-of};
+ghost use Rattle.printing.specs.Lines.{Readable, Printable, text-of};
 use answers::Answer;
 use engine::Examined;
 use formulas::Equation;
@@ -48,8 +49,10 @@ fn put_answer(out: &mut [u8], words: &[u32], e: Examined) -> usize
 
 // Writes a line for each word, and gives the number of bytes written.
 fn put_instances(out: &mut [u8], words: &[u32], truth: [u64; 8], equations: [Equation; 8]) -> usize
-    requires { ⌜ Readable equations (now words) × ((length (now words) ≤ 512) × (15 * length (now words) ≤ length (now out))) ⌝ }
-    ensures { λ r. ⌜ Puts (now (out .entry)) 0 (lines-of equations truth 0 (now (words .entry))) r (now (out .exit)) ⌝ }
+    requires { ⌜ Readable equations (now words) ×
+        ((length (now words) ≤ 512) × (15 * length (now words) ≤ length (now out))) ⌝ }
+    ensures { λ r. ⌜ Puts (now (out .entry)) 0 (lines-of equations truth 0 (now (words .entry))) r
+        (now (out .exit)) ⌝ }
 {
     let mut at: usize = 0;
     let mut j: usize = 0;
@@ -90,7 +93,8 @@ fn put_byte(out: &mut [u8], at: usize, b: u8)
 
 fn instance_frame(equations: [Equation; 8], word: u32, value: bool) -> Frame
     requires { ⌜ (word / 65536 < 8) × (parameters-of equations word ≤ 4) ⌝ }
-    ensures { λ r. ⌜ (bytes-of r ≡ word-frame (parameters-of equations word) word value) × (r .count ≡ parameters-of equations word + 3) ⌝ }
+    ensures { λ r. ⌜ (bytes-of r ≡ word-frame (parameters-of equations word) word value) ×
+        (r .count ≡ parameters-of equations word + 3) ⌝ }
 {
     let e = (word / 65536) as usize;
     let equation = equations[e];

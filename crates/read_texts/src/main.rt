@@ -1,6 +1,8 @@
-// Reads many texts and prints the number and the line of each one's refusal, or zeros: `4 0001`, the line as four hexadecimal digits.
+// Reads many texts and prints the number and the line of each one's refusal, or zeros: `4 0001`, the line as
+// four hexadecimal digits.
 // On standard input each text comes after its length: four hexadecimal digits and 0a.
-// The file `stdin` was made by a separate program; `stdout` is what an independent implementation of document 01, not written in Rattle, says of each text.
+// The file `stdin` was made by a separate program; `stdout` is what an independent implementation of document
+// 01, not written in Rattle, says of each text.
 fn low(x: usize) -> u8 {
     (x % 16) as u8
 }

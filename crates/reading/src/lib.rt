@@ -10,7 +10,9 @@ ghost use Rattle.formulas.specs.Bodies.{ranges-of, is-fitting};
 ghost use Rattle.reading.specs.Lines.{first-length, all-digits};
 ghost use Rattle.reading.specs.Frames.{range-of, equation-record, head-right, start-record};
 ghost use Rattle.reading.specs.Models.{no-model, with-equation, with-start, start-right};
-ghost use Rattle.reading.specs.Reading.{refused, accepted, read-equation, read-start, read-frame, is-shaped, read-line, line-at, finished, start-judged, instances-judged, reading};
+ghost use Rattle.reading.specs.Reading.{refused, accepted, read-equation, read-start, read-frame};
+ghost use Rattle.reading.specs.Reading.{is-shaped, read-line, line-at, finished};
+ghost use Rattle.reading.specs.Reading.{start-judged, instances-judged, reading};
 use formulas::Equation;
 
 // A start's line, its equation, how many arguments it has, and the first four of them.
@@ -21,7 +23,8 @@ pub struct Start {
     pub arguments: [u8; 4],
 }
 
-// The first `count` of `equations` are the equations so far, the first `count` of `lines` are theirs; `start` is the start, where `started`.
+// The first `count` of `equations` are the equations so far, the first `count` of `lines` are theirs; `start`
+// is the start, where `started`.
 pub struct Model {
     pub count: usize,
     pub equations: [Equation; 8],
@@ -85,7 +88,8 @@ fn accept(m: Model) -> Reading
 // Where the line that starts at `at` ends: at its 0a, or at the end of the text.
 fn line_end(text: &[u8], at: usize) -> usize
     requires { ⌜ at ≤ length (now text) ⌝ }
-    ensures { λ r. ⌜ (r ≡ at + first-length (drop at (now (text .entry)))) × ((at ≤ r) × (r ≤ length (now (text .entry)))) ⌝ }
+    ensures { λ r. ⌜ (r ≡ at + first-length (drop at (now (text .entry)))) ×
+        ((at ≤ r) × (r ≤ length (now (text .entry)))) ⌝ }
 {
     let mut i = at;
     while i < text.len() {
@@ -229,7 +233,8 @@ fn with_start(m: Model, s: Start) -> Model
 
 fn read_equation(text: &[u8], m: Model, line: usize, place: usize, size: usize) -> Reading
     requires { ⌜ place ≤ length (now text) ⌝ }
-    ensures { λ r. ⌜ r ≡ read-equation (now (text .entry)) m line place (bytes-at (now (text .entry)) place size) ⌝ }
+    ensures { λ r. ⌜ r ≡ read-equation (now (text .entry)) m line place
+        (bytes-at (now (text .entry)) place size) ⌝ }
 {
     if m.started {
         return refuse(4, line);
@@ -264,7 +269,8 @@ fn read_start(text: &[u8], m: Model, line: usize, place: usize, size: usize) -> 
 
 fn read_frame(text: &[u8], m: Model, line: usize, place: usize, size: usize) -> Reading
     requires { ⌜ place ≤ length (now text) ⌝ }
-    ensures { λ r. ⌜ r ≡ read-frame (now (text .entry)) m line place (bytes-at (now (text .entry)) place size) ⌝ }
+    ensures { λ r. ⌜ r ≡ read-frame (now (text .entry)) m line place
+        (bytes-at (now (text .entry)) place size) ⌝ }
 {
     let code = digits::byte(text, place, size, 0);
     match code {
@@ -275,7 +281,8 @@ fn read_frame(text: &[u8], m: Model, line: usize, place: usize, size: usize) -> 
     }
 }
 
-// Whether a line from `at` up to `end` is ended by 0a, is not empty, and has an even number of characters, at most 512.
+// Whether a line from `at` up to `end` is ended by 0a, is not empty, and has an even number of characters, at
+// most 512.
 fn is_shaped(text: &[u8], at: usize, end: usize) -> bool
     requires { ⌜ (at ≤ end) × (end ≤ length (now text)) ⌝ }
     ensures { λ r. ⌜ r ≡ is-shaped (line-at (now (text .entry)) at end) ⌝ }

@@ -1,5 +1,6 @@
 // Checks many texts and prints what the checking program prints for each, and an empty line after it.
-// On standard input each text comes after its length: eight hexadecimal digits, of which the last four count, and 0a.
+// On standard input each text comes after its length: eight hexadecimal digits, of which the last four count,
+// and 0a.
 // README.md beside this folder says what the texts are and how the expected output was made.
 ghost use mathlib.Core.Path.{_≡_};
 ghost use lib.ListN.{length};
