@@ -1,5 +1,5 @@
--- DEMAND 3: more never takes away: a looser model keeps what is true, more room the answer; room alone decides on 9.
--- Over answers for two texts, and for two rooms of one text; by the law on looser models and the order of refusals.
+-- DEMAND 3: more never takes away: a looser model keeps what is true, more room the answer; room decides 9.
+-- Over answers for two texts, and for two rooms of one; by the law on looser models and the refusals' order.
 use Prim.Native.Nat.{ℕ, _≤_, _<_}
 use native.Mathlib.Omega.{arith}
 use mathlib.Core.Path.{_≡_, refl, sym, ap, subst, _∙_}
@@ -15,7 +15,8 @@ use Rattle.reading.specs.Reading.{reading}
 use Rattle.reading.proofs.WellFormed.{reading-well-formed}
 use Rattle.truth.specs.Bits.{bit-of}
 use Rattle.answers.specs.declared.Answer.{Answer}
-use Rattle.answers.specs.Answers.{the-model, the-start, list, truth-in, room-of, refusal, verdict, answer, kept-words, checked}
+use Rattle.answers.specs.Answers.{the-model, the-start, list, truth-in, room-of, refusal, verdict}
+use Rattle.answers.specs.Answers.{answer, kept-words, checked}
 use Rattle.answers.specs.Demand1.{_exactly-when_, Reply, short-list, text-refused, too-many, judged-so, every-answer, records-enough, then-verdict, nine-given}
 use Rattle.answers.specs.Demand2.{start-first, holds-exactly, verdict-read, verdict-room, bit-is-value}
 

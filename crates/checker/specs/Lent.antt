@@ -43,7 +43,8 @@ module _ (t : List ℕ) (records : List Record) where
   lent-after number enough = by-number (eqb number 0) refl
     where
       by-number : (b : Bool) → eqb number 0 ≡ b →
-          Lent t records number (cond b (records-of (reading t .model) ++ drop (reading t .model .count) records) records)
+          Lent t records number
+          (cond b (records-of (reading t .model) ++ drop (reading t .model .count) records) records)
       by-number true e =
           let zero = eqb-true number 0 e in
           record {
@@ -51,7 +52,13 @@ module _ (t : List ℕ) (records : List Record) where
             records-filled = λ _. refl;
             records-length =
                 length-append (records-of (reading t .model)) (drop (reading t .model .count) records)
-                ∙ omega (arith, records-counted t, length-drop (reading t .model .count) records, sound t .few, enough zero);
+                ∙ omega (
+                  arith,
+                  records-counted t,
+                  length-drop (reading t .model .count) records,
+                  sound t .few,
+                  enough zero,
+                );
           }
       by-number false e =
           let refused = eqb-false number 0 e in

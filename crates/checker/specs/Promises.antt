@@ -1,6 +1,6 @@
 -- DEFINITIONS: the promises of the public operations, for all inputs: one equation for what comes back and one for each lent place.
--- THEOREMS: one reply for each input. Two replies that a promise allows are equal. (`devashtor_check` promises
--- `Written`: its one reply is `one-writing`, in printing/specs/Promise.)
+-- THEOREMS: one reply for each input. Two replies that a promise allows are equal. (`devashtor_check`
+-- promises `Written`: its one reply is `one-writing`, in printing/specs/Promise.)
 use mathlib.Core.Path.{_≡_}
 use Prim.Native.Nat.{ℕ}
 use mathlib.Core.List.{List}

@@ -55,10 +55,12 @@ set-equation table e new old = filled (of-equation table e (length table)) new o
 unfoldable pub is-greatest : List Equation → ℕ → Bool
 is-greatest equations e = eqb (equation-at equations e .sign) 1
 
--- the first n instances of a table at the constants of their equations' signs, where these are among the first `count`
+-- the first n instances of a table at the constants of their equations' signs, where these are among the
+-- first `count`
 unfoldable pub first-values : List Equation → ℕ → List ℕ → ℕ → Truths
 first-values equations count table n j =
-    ltb j n && (ltb (equation-of (getD table j 0)) count && is-greatest equations (equation-of (getD table j 0)))
+    ltb j n &&
+    (ltb (equation-of (getD table j 0)) count && is-greatest equations (equation-of (getD table j 0)))
 
 -- the words of a table name no equation past the eighth, and it is not too long for a set
 abbrev pub FewEquations : List ℕ → Type 0

@@ -1,5 +1,5 @@
 -- What the contracts of the evaluator's inner functions say; none of the documents' words is defined here.
--- Whether something was read at a place, its value and its end; `on` is what the end of the recursion hangs on.
+-- Whether something was read at a place, its value and its end; the end of the recursion hangs on `on`.
 use Prim.Native.Nat.{ℕ, _+_, _≤_}
 use mathlib.Core.Bool.{Bool}
 use mathlib.Core.List.{List, [], _∷_, _++_}

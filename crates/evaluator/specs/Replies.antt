@@ -1,4 +1,4 @@
--- DEFINITIONS: what the evaluator replies, for all inputs: a formula's value, an instance's word, read at a place.
+-- DEFINITIONS: what the evaluator replies, for all inputs: the value of a formula, the word of an instance.
 -- Where nothing can be read the reply says so. n bounds how deep the decoder goes: the bytes left are enough.
 use Prim.Native.Nat.{ℕ, _+_, _≤_}
 use mathlib.Core.Path.{_≡_}
@@ -19,7 +19,7 @@ use Rattle.evaluator.specs.declared.Valued.{Valued}
 use Rattle.evaluator.specs.declared.WordAt.{WordAt}
 use Rattle.evaluator.specs.Values.{valued}
 
--- the formula at a place, with q quantifiers around it: "parameter count k (0 to 4)", so at most 4 + q variables
+-- the formula at a place under q quantifiers: "parameter count k (0 to 4)", so at most 4 + q variables
 abbrev pub formula-there : ℕ → List ℕ → Scope → ℕ → ℕ → Parsed Formula
 formula-there n s scope q at = when (leb (scope .count) (4 + q)) (formula-at n s (scope .count) q at)
 

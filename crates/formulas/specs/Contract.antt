@@ -1,4 +1,4 @@
--- What the contracts of the formula reader's inner functions say; no definition of the documents' words is here.
+-- What the contracts of the formula reader's inner functions say; no word of the documents is defined here.
 -- `Told` is two-sided: whether something was read, and where it was, where it ends and what v is of it.
 use Prim.Native.Nat.{ℕ, zero, suc, _+_, _-_, _*_, _≤_, _<_, min}
 use mathlib.Core.Path.{_≡_}
@@ -10,7 +10,8 @@ use Rattle.meaning.specs.Ranges.{term-range, arguments-fit, fits}
 use Rattle.formulas.specs.declared.Equation.{Equation}
 use Rattle.formulas.specs.declared.Scope.{Scope}
 use Rattle.formulas.specs.declared.Kind.{Kind}
-use Rattle.formulas.specs.declared.Kind.the-variants.{NoFormula, Constant, Join, Quantifier, Compare, Instance}
+use Rattle.formulas.specs.declared.Kind.the-variants.{NoFormula, Constant, Join, Quantifier, Compare}
+use Rattle.formulas.specs.declared.Kind.the-variants.{Instance}
 use Rattle.formulas.specs.declared.TermKind.{TermKind}
 use Rattle.formulas.specs.declared.TermKind.the-variants.{NoTerm, Number, Variable, Calculation}
 use Rattle.formulas.specs.declared.Test.the-variants.{Equal, Less, Unequal, NotLess}
@@ -65,9 +66,9 @@ pub record TermTold (s : List ℕ) (scope : Scope) (at : ℕ) (ok : Bool) (v e :
   pub tells : (n : ℕ) → length s ≤ n + at
       → Told (λ t. term-range t (seen scope)) v e (term-at n s (scope .count) at) ok
 
--- c terms, as the arguments for the parameters with the ranges ps; `before` is whether all fits that is before them
-pub record ArgumentsTold (before : Bool) (ps : List ℕ) (c : ℕ) (s : List ℕ) (scope : Scope) (at : ℕ) (ok v : Bool)
-    (e : ℕ) : Type 0 where
+-- c terms, as arguments for the parameters with the ranges ps; `before`: whether all before them fits
+pub record ArgumentsTold (before : Bool) (ps : List ℕ) (c : ℕ) (s : List ℕ) (scope : Scope) (at : ℕ)
+    (ok v : Bool) (e : ℕ) : Type 0 where
   pub on : at ≤ e
   pub tells : (n : ℕ) → length s ≤ n + at
       → Told (λ ts. before && arguments-fit ts ps (seen scope)) v e (terms-at n c s (scope .count) at) ok
