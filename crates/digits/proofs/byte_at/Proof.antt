@@ -9,24 +9,6 @@ use Rattle.digits.proofs.byte_at.Tie as tie
 returns : tie.Need-returns
 returns c = sym (byte-past (c .before .before .args .text .now) (c .before .before .args .place) (c .if1 .taken))
 
-add-next : tie.Need-add-next
-add-next c = search needs
-
-element-requires : tie.Need-element-requires
-element-requires c κs = search needs
-
-worth-requires : tie.Need-worth-requires
-worth-requires c κs = search needs
-
-element-requires-2 : tie.Need-element-requires-2
-element-requires-2 c κs = search needs
-
-worth-requires-2 : tie.Need-worth-requires-2
-worth-requires-2 c κs = search needs
-
-pair-requires : tie.Need-pair-requires
-pair-requires c κs = search needs
-
 returns-2 : tie.Need-returns-2
 returns-2 c =
     byte-from _ _ (c .before .before .before .before .element .ensures) (c .before .before .before .worth .ensures)
@@ -37,10 +19,10 @@ byte-at-spec =
     tie.close
     (tie.spec
     returns
-    add-next
-    element-requires
-    worth-requires
-    element-requires-2
-    worth-requires-2
-    pair-requires
+    (λ c. search needs)
+    (λ c κs. search needs)
+    (λ c κs. search needs)
+    (λ c κs. search needs)
+    (λ c κs. search needs)
+    (λ c κs. search needs)
     returns-2)

@@ -10,29 +10,8 @@ use Rattle.meaning.specs.Formulas.{sum, difference}
 use Rattle.evaluator.proofs.calculate.Statement.{statement}
 use Rattle.evaluator.proofs.calculate.Tie as tie
 
-returns : tie.Need-returns
-returns c = search needs
-
-wide-requires : tie.Need-wide-requires
-wide-requires c κs = search needs
-
-wide-requires-2 : tie.Need-wide-requires-2
-wide-requires-2 c κs = search needs
-
-add-sum : tie.Need-add-sum
-add-sum c = search needs
-
-wide-requires-3 : tie.Need-wide-requires-3
-wide-requires-3 c κs = search needs
-
-rem-sum : tie.Need-rem-sum
-rem-sum c = search needs
-
 cast-result : tie.Need-cast-result
 cast-result c = omega (arith, mod-lt (c .before .before .wide .result + c .before .wide2 .result) {m = c .wide3 .result} (omega arith))
-
-rem-result : tie.Need-rem-result
-rem-result c = search needs
 
 returns-2 : tie.Need-returns-2
 unfolding sum
@@ -58,14 +37,14 @@ pub calculate-spec : {M : Type 1} → statement M
 calculate-spec =
     tie.close
     (tie.spec
-    returns
-    wide-requires
-    wide-requires-2
-    add-sum
-    wide-requires-3
-    rem-sum
+    (λ c. search needs)
+    (λ c κs. search needs)
+    (λ c κs. search needs)
+    (λ c. search needs)
+    (λ c κs. search needs)
+    (λ c. search needs)
     cast-result
-    rem-result
+    (λ c. search needs)
     returns-2
     returns-3
     returns-4)

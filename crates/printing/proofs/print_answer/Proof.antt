@@ -17,23 +17,11 @@ blank = replicate 512 0
 returns : tie.Need-returns
 returns c = buffer-stays (c .before .before .before .args .text .now) (c .before .before .before .args .out .now) (omega arith)
 
-slice-aggregate-examine : tie.Need-slice-aggregate-examine
-slice-aggregate-examine c = search needs
-
-examine-requires : tie.Need-examine-requires
-examine-requires c κs = search needs
-
-slice-aggregate-put-answer : tie.Need-slice-aggregate-put-answer
-slice-aggregate-put-answer c = search needs
-
 put-answer-requires : tie.Need-put-answer-requires
 put-answer-requires c κs =
     let examined = c .before .before .before .examine in
     let text = c .before .before .before .before .before .before .before .before .args .text .now in
     (printable text (examined .result) blank (examined .last .1 .0) refl (examined .ensures), c .before .before .before .before .before .if1 .left)
-
-same-length : tie.Need-same-length
-same-length c = search needs
 
 returns-2 : tie.Need-returns-2
 returns-2 c =
@@ -50,9 +38,9 @@ print-answer-spec =
     tie.close
     (tie.spec
     returns
-    slice-aggregate-examine
-    examine-requires
-    slice-aggregate-put-answer
+    (λ c. search needs)
+    (λ c κs. search needs)
+    (λ c. search needs)
     put-answer-requires
-    same-length
+    (λ c. search needs)
     returns-2)

@@ -10,15 +10,6 @@ use native.Mathlib.Omega.{arith}
 use Rattle.printing.proofs.put_answer.Statement.{statement}
 use Rattle.printing.proofs.put_answer.Tie as tie
 
-refusal-frame-requires : tie.Need-refusal-frame-requires
-refusal-frame-requires c κs = search needs
-
-put-line-requires : tie.Need-put-line-requires
-put-line-requires c κs = search needs
-
-same-length : tie.Need-same-length
-same-length c = search needs
-
 returns : tie.Need-returns
 returns c =
     let a = c .before .before .before .before .before .before .before .before .before .before .args in
@@ -43,9 +34,6 @@ put-instances-requires c κs =
     let n = length-take-le (start .args .e .answer .reached) words (few .1) in
     (start .pre .0 .readable right, (omega arith, omega (arith, start .pre .1)))
 
-verdict-frame-requires : tie.Need-verdict-frame-requires
-verdict-frame-requires c κs = search needs
-
 put-line-requires-2 : tie.Need-put-line-requires-2
 put-line-requires-2 c κs =
     let start = c .before .before .before .before .before .before .before .before .before .before .before .before .before .before .before in
@@ -56,9 +44,6 @@ put-line-requires-2 c κs =
     let short = lines-short (e .model .equations) (e .answer .truth) 0 (take (e .answer .reached) words) in
     let put = c .before .before .before .before .put-instances in
     (omega arith, omega (arith, c .verdict-frame .ensures .1, put .ensures .0, put .kept .0, start .pre .1))
-
-same-length-2 : tie.Need-same-length-2
-same-length-2 c = search needs
 
 returns-2 : tie.Need-returns-2
 returns-2 c =
@@ -74,13 +59,13 @@ pub put-answer-spec : {M : Type 1} → statement M
 put-answer-spec =
     tie.close
     (tie.spec
-    refusal-frame-requires
-    put-line-requires
-    same-length
+    (λ c κs. search needs)
+    (λ c κs. search needs)
+    (λ c. search needs)
     returns
     slice-aggregate-put-instances
     put-instances-requires
-    verdict-frame-requires
+    (λ c κs. search needs)
     put-line-requires-2
-    same-length-2
+    (λ c. search needs)
     returns-2)

@@ -60,15 +60,6 @@ abbrev μ-loop : tie.MeasureT-loop
 loop-holds : tie.Need-loop-holds Inv-loop μ-loop
 loop-holds c = record { within = omega arith; near = omega arith; long = refl; left = refl; place = omega arith }
 
-mul-instance-frame : tie.Need-mul-instance-frame Inv-loop μ-loop
-mul-instance-frame c = omega arith
-
-shared-slice-read-instance-frame : tie.Need-shared-slice-read-instance-frame Inv-loop μ-loop
-shared-slice-read-instance-frame c = omega arith
-
-has-requires : tie.Need-has-requires Inv-loop μ-loop
-has-requires c κs = search needs
-
 instance-frame-requires : tie.Need-instance-frame-requires Inv-loop μ-loop
 unfolding Readable
 instance-frame-requires c κs = c .before .before .before .before .before .before .pre .0 (c .before .before .before .loop .j) (c .before .before .loop-test .taken)
@@ -81,12 +72,6 @@ put-line-requires c κs =
     let few = c .before .before .before .before .before .before .before .before .pre .0 (loop .j) less .1 in
     let count = c .before .instance-frame .ensures .1 in
     (omega arith, omega (arith, loop .inv .near, loop .inv .long))
-
-add-j : tie.Need-add-j Inv-loop μ-loop
-add-j c = omega arith
-
-loop-less : tie.Need-loop-less Inv-loop μ-loop
-loop-less c = omega arith
 
 loop-again : tie.Need-loop-again Inv-loop μ-loop
 unfolding Readable
@@ -119,13 +104,13 @@ put-instances-spec =
     Inv-loop
     μ-loop
     loop-holds
-    mul-instance-frame
-    shared-slice-read-instance-frame
-    has-requires
+    (λ c. omega arith)
+    (λ c. omega arith)
+    (λ c κs. search needs)
     instance-frame-requires
     put-line-requires
-    add-j
-    loop-less
+    (λ c. omega arith)
+    (λ c. omega arith)
     loop-again
     same-length
     returns)

@@ -27,21 +27,6 @@ abbrev μ-loop : tie.MeasureT-loop
 loop-holds : tie.Need-loop-holds Inv-loop μ-loop
 loop-holds c = (omega arith, record { there = omega arith; long = refl; left = refl })
 
-array-read-put-byte : tie.Need-array-read-put-byte Inv-loop μ-loop
-array-read-put-byte c = omega arith
-
-put-byte-requires : tie.Need-put-byte-requires Inv-loop μ-loop
-put-byte-requires c κs = search needs
-
-add-place : tie.Need-add-place Inv-loop μ-loop
-add-place c = omega arith
-
-add-i : tie.Need-add-i Inv-loop μ-loop
-add-i c = omega arith
-
-loop-less : tie.Need-loop-less Inv-loop μ-loop
-loop-less c = omega arith
-
 loop-again : tie.Need-loop-again Inv-loop μ-loop
 loop-again c =
     let loop = c .before .before .before .before .before .loop in
@@ -54,12 +39,6 @@ loop-again c =
     let before = loop .inv .1 in
     let turn = line-step (loop .out) (put .last .0) (loop .place) (loop .i) f _ (omega arith) b (put .ensures) in
     (omega arith, record { there = omega (arith, before .there); long = put .kept .0 ∙ before .long; left = turn ∙ before .left })
-
-slice-write-out : tie.Need-slice-write-out Inv-loop μ-loop
-slice-write-out c = omega arith
-
-add-result : tie.Need-add-result Inv-loop μ-loop
-add-result c = omega arith
 
 same-length : tie.Need-same-length Inv-loop μ-loop
 same-length c = rw length-set (c .before .loop .inv .1 .long)
@@ -83,13 +62,13 @@ put-line-spec =
     Inv-loop
     μ-loop
     loop-holds
-    array-read-put-byte
-    put-byte-requires
-    add-place
-    add-i
-    loop-less
+    (λ c. omega arith)
+    (λ c κs. search needs)
+    (λ c. omega arith)
+    (λ c. omega arith)
+    (λ c. omega arith)
     loop-again
-    slice-write-out
-    add-result
+    (λ c. omega arith)
+    (λ c. omega arith)
     same-length
     returns)

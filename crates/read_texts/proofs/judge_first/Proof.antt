@@ -7,33 +7,18 @@ use native.Mathlib.Omega.{arith}
 use Rattle.read_texts.proofs.judge_first.Statement.{statement}
 use Rattle.read_texts.proofs.judge_first.Tie as tie
 
-smaller-requires : tie.Need-smaller-requires
-smaller-requires c κs = search needs
-
-slice-relend-prefix-judge : tie.Need-slice-relend-prefix-judge
-slice-relend-prefix-judge c = search needs
-
 slice-aggregate-judge : tie.Need-slice-aggregate-judge
 slice-aggregate-judge c =
     let a = c .before .before .before .args in
     sym (length-take-le (c .before .smaller .result) (a .buffer .now) (omega (arith, c .before .smaller .ensures)))
 
-judge-requires : tie.Need-judge-requires
-judge-requires c κs = search needs
-
-same-length : tie.Need-same-length
-same-length c = search needs
-
-returns : tie.Need-returns
-returns c = search needs
-
 pub judge-first-spec : {M : Type 1} → statement M
 judge-first-spec =
     tie.close
     (tie.spec
-    smaller-requires
-    slice-relend-prefix-judge
+    (λ c κs. search needs)
+    (λ c. search needs)
     slice-aggregate-judge
-    judge-requires
-    same-length
-    returns)
+    (λ c κs. search needs)
+    (λ c. search needs)
+    (λ c. search needs))

@@ -7,39 +7,6 @@ use borrow.Author.Needs.{needs}
 use Rattle.reading.proofs.equation_record.Statement.{statement}
 use Rattle.reading.proofs.equation_record.Tie as tie
 
-byte-requires : tie.Need-byte-requires
-byte-requires c κs = search needs
-
-byte-requires-2 : tie.Need-byte-requires-2
-byte-requires-2 c κs = search needs
-
-range-of-requires : tie.Need-range-of-requires
-range-of-requires c κs = search needs
-
-range-of-requires-2 : tie.Need-range-of-requires-2
-range-of-requires-2 c κs = search needs
-
-range-of-requires-3 : tie.Need-range-of-requires-3
-range-of-requires-3 c κs = search needs
-
-range-of-requires-4 : tie.Need-range-of-requires-4
-range-of-requires-4 c κs = search needs
-
-wide-requires : tie.Need-wide-requires
-wide-requires c κs = search needs
-
-add-head : tie.Need-add-head
-add-head c = search needs
-
-mul-body : tie.Need-mul-body
-mul-body c = search needs
-
-add-body : tie.Need-add-body
-add-body c = search needs
-
-difference-requires : tie.Need-difference-requires
-difference-requires c κs = search needs
-
 returns : tie.Need-returns
 unfolding equation-record
 returns c =
@@ -61,15 +28,15 @@ pub equation-record-spec : {M : Type 1} → statement M
 equation-record-spec =
     tie.close
     (tie.spec
-    byte-requires
-    byte-requires-2
-    range-of-requires
-    range-of-requires-2
-    range-of-requires-3
-    range-of-requires-4
-    wide-requires
-    add-head
-    mul-body
-    add-body
-    difference-requires
+    (λ c κs. search needs)
+    (λ c κs. search needs)
+    (λ c κs. search needs)
+    (λ c κs. search needs)
+    (λ c κs. search needs)
+    (λ c κs. search needs)
+    (λ c κs. search needs)
+    (λ c. search needs)
+    (λ c. search needs)
+    (λ c. search needs)
+    (λ c κs. search needs)
     returns)

@@ -21,36 +21,12 @@ loop-holds c =
     let a = c .before .args in
     (omega arith, ap (instances-judged (a .text .now) (a .t2) 0) (omega arith))
 
-mul-e : tie.Need-mul-e Inv-loop μ-loop
-mul-e c = omega arith
-
-element-copy-out-e : tie.Need-element-copy-out-e Inv-loop μ-loop
-element-copy-out-e c = omega arith
-
-instances-right-requires : tie.Need-instances-right-requires Inv-loop μ-loop
-instances-right-requires c κs = search needs
-
-mul-refuse : tie.Need-mul-refuse Inv-loop μ-loop
-mul-refuse c = omega arith
-
-element-copy-out-refuse : tie.Need-element-copy-out-refuse Inv-loop μ-loop
-element-copy-out-refuse c = omega arith
-
-refuse-requires : tie.Need-refuse-requires Inv-loop μ-loop
-refuse-requires c κs = search needs
-
 returns : tie.Need-returns Inv-loop μ-loop
 returns c =
     let a = c .before .before .before .before .before .before .before .before .args in
     c .refuse .ensures ∙ sym (c .before .before .before .before .before .before .loop .inv .1 ∙ instances-wrong (a .text .now) (a .t2)
     (c .before .before .before .before .before .before .loop .j) (c .before .before .before .before .before .loop-test .taken) (c .before .before .before .instances-right .ensures)
     (not-true _ (c .before .before .if1 .taken)))
-
-add-j : tie.Need-add-j Inv-loop μ-loop
-add-j c = omega arith
-
-loop-less : tie.Need-loop-less Inv-loop μ-loop
-loop-less c = omega arith
 
 loop-again : tie.Need-loop-again Inv-loop μ-loop
 loop-again c =
@@ -59,9 +35,6 @@ loop-again c =
       c .before .before .before .before .loop .inv .1 ∙ instances-more (a .text .now) (a .t2) (c .before .before .before .before .loop .j)
           (c .before .before .before .loop-test .taken) (c .before .instances-right .ensures) (not-false _ (c .if1 .left)),
     )
-
-judge-start-requires : tie.Need-judge-start-requires Inv-loop μ-loop
-judge-start-requires c κs = search needs
 
 returns-2 : tie.Need-returns-2 Inv-loop μ-loop
 returns-2 c =
@@ -75,15 +48,15 @@ judge-instances-spec =
     Inv-loop
     μ-loop
     loop-holds
-    mul-e
-    element-copy-out-e
-    instances-right-requires
-    mul-refuse
-    element-copy-out-refuse
-    refuse-requires
+    (λ c. omega arith)
+    (λ c. omega arith)
+    (λ c κs. search needs)
+    (λ c. omega arith)
+    (λ c. omega arith)
+    (λ c κs. search needs)
     returns
-    add-j
-    loop-less
+    (λ c. omega arith)
+    (λ c. omega arith)
     loop-again
-    judge-start-requires
+    (λ c κs. search needs)
     returns-2)

@@ -9,31 +9,16 @@ use borrow.Author.Needs.{needs}
 use Rattle.reading.proofs.read_equation.Statement.{statement}
 use Rattle.reading.proofs.read_equation.Tie as tie
 
-refuse-requires : tie.Need-refuse-requires
-refuse-requires c κs = search needs
-
 returns : tie.Need-returns
 returns c =
     let a = c .before .before .before .args in
     c .refuse .ensures ∙ equation-late (a .text .now) (a .m) (a .line) (a .place) (a .size) (c .before .if1 .taken)
-
-refuse-requires-2 : tie.Need-refuse-requires-2
-refuse-requires-2 c κs = search needs
 
 returns-2 : tie.Need-returns-2
 returns-2 c =
     let a = c .before .before .before .before .before .args in
     c .refuse2 .ensures ∙ equation-ninth (a .text .now) (a .m) (a .line) (a .place) (a .size)
     (c .before .before .before .if1 .left) (omega arith)
-
-equation-record-requires : tie.Need-equation-record-requires
-equation-record-requires c κs = search needs
-
-head-right-requires : tie.Need-head-right-requires
-head-right-requires c κs = search needs
-
-refuse-requires-3 : tie.Need-refuse-requires-3
-refuse-requires-3 c κs = search needs
 
 returns-3 : tie.Need-returns-3
 returns-3 c =
@@ -42,12 +27,6 @@ returns-3 c =
     (c .before .before .before .before .if2 .left)
     _ (c .before .before .before .equation-record .ensures) _ (c .before .before .head-right .ensures) (not-true _ (c .before .if3 .taken))
 
-is-body-requires : tie.Need-is-body-requires
-is-body-requires c κs = search needs
-
-refuse-requires-4 : tie.Need-refuse-requires-4
-refuse-requires-4 c κs = search needs
-
 returns-4 : tie.Need-returns-4
 returns-4 c =
     let a = c .before .before .before .before .before .before .before .before .before .before .args in
@@ -55,12 +34,6 @@ returns-4 c =
     (c .before .before .before .before .before .before .if2 .left)
     _ (c .before .before .before .before .before .equation-record .ensures) _ (c .before .before .before .before .head-right .ensures) (not-false _ (c .before .before .before .if3 .left)) _
     (c .before .before .is-body .ensures) (not-true _ (c .before .if4 .taken))
-
-with-equation-requires : tie.Need-with-equation-requires
-with-equation-requires c κs = search needs
-
-accept-requires : tie.Need-accept-requires
-accept-requires c κs = search needs
 
 returns-5 : tie.Need-returns-5
 returns-5 c =
@@ -74,17 +47,17 @@ pub read-equation-spec : {M : Type 1} → statement M
 read-equation-spec =
     tie.close
     (tie.spec
-    refuse-requires
+    (λ c κs. search needs)
     returns
-    refuse-requires-2
+    (λ c κs. search needs)
     returns-2
-    equation-record-requires
-    head-right-requires
-    refuse-requires-3
+    (λ c κs. search needs)
+    (λ c κs. search needs)
+    (λ c κs. search needs)
     returns-3
-    is-body-requires
-    refuse-requires-4
+    (λ c κs. search needs)
+    (λ c κs. search needs)
     returns-4
-    with-equation-requires
-    accept-requires
+    (λ c κs. search needs)
+    (λ c κs. search needs)
     returns-5)

@@ -7,21 +7,6 @@ use borrow.Author.Needs.{needs}
 use Rattle.reading.proofs.read_frame.Statement.{statement}
 use Rattle.reading.proofs.read_frame.Tie as tie
 
-byte-requires : tie.Need-byte-requires
-byte-requires c κs = search needs
-
-read-equation-requires : tie.Need-read-equation-requires
-read-equation-requires c κs = search needs
-
-read-start-requires : tie.Need-read-start-requires
-read-start-requires c κs = search needs
-
-accept-requires : tie.Need-accept-requires
-accept-requires c κs = search needs
-
-refuse-requires : tie.Need-refuse-requires
-refuse-requires c κs = search needs
-
 returns : tie.Need-returns
 returns c =
     let a = c .before .before .before .before .args in
@@ -50,11 +35,11 @@ pub read-frame-spec : {M : Type 1} → statement M
 read-frame-spec =
     tie.close
     (tie.spec
-    byte-requires
-    read-equation-requires
-    read-start-requires
-    accept-requires
-    refuse-requires
+    (λ c κs. search needs)
+    (λ c κs. search needs)
+    (λ c κs. search needs)
+    (λ c κs. search needs)
+    (λ c κs. search needs)
     returns
     returns-2
     returns-3

@@ -7,23 +7,11 @@ use borrow.Author.Needs.{needs}
 use Rattle.reading.proofs.read_line.Statement.{statement}
 use Rattle.reading.proofs.read_line.Tie as tie
 
-all-digits-requires : tie.Need-all-digits-requires
-all-digits-requires c κs = search needs
-
-refuse-requires : tie.Need-refuse-requires
-refuse-requires c κs = search needs
-
 returns : tie.Need-returns
 returns c =
     let a = c .before .before .before .before .args in
     c .refuse .ensures ∙ line-characters (a .text .now) (a .at) (a .end) (c .before .before .before .before .pre .0) (c .before .before .before .before .pre .1) (a .m) (a .line)
     (c .before .before .all-digits .ensures) (not-true _ (c .before .if1 .taken))
-
-is-shaped-requires : tie.Need-is-shaped-requires
-is-shaped-requires c κs = search needs
-
-refuse-requires-2 : tie.Need-refuse-requires-2
-refuse-requires-2 c κs = search needs
 
 returns-2 : tie.Need-returns-2
 returns-2 c =
@@ -31,12 +19,6 @@ returns-2 c =
     c .refuse2 .ensures ∙ line-shape (a .text .now) (a .at) (a .end) (c .before .before .before .before .before .before .pre .0) (c .before .before .before .before .before .before .pre .1)
     (a .m) (a .line) (c .before .before .before .before .all-digits .ensures) (not-false _ (c .before .before .before .if1 .left)) (c .before .before .is-shaped .ensures)
     (not-true _ (c .before .if2 .taken))
-
-sub-size : tie.Need-sub-size
-sub-size c = search needs
-
-read-frame-requires : tie.Need-read-frame-requires
-read-frame-requires c κs = search needs
 
 returns-3 : tie.Need-returns-3
 returns-3 c =
@@ -49,12 +31,12 @@ pub read-line-spec : {M : Type 1} → statement M
 read-line-spec =
     tie.close
     (tie.spec
-    all-digits-requires
-    refuse-requires
+    (λ c κs. search needs)
+    (λ c κs. search needs)
     returns
-    is-shaped-requires
-    refuse-requires-2
+    (λ c κs. search needs)
+    (λ c κs. search needs)
     returns-2
-    sub-size
-    read-frame-requires
+    (λ c. search needs)
+    (λ c κs. search needs)
     returns-3)

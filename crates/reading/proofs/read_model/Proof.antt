@@ -18,24 +18,15 @@ Inv-loop text m₀ at₀ line₀ m at line = (((at ≤ length text + 1) × (line
 abbrev μ-loop : tie.MeasureT-loop
 μ-loop text m₀ at₀ line₀ m at line = length text + 1 - at
 
-refuse-requires : tie.Need-refuse-requires Inv-loop μ-loop
-refuse-requires c κs = search needs
-
 returns : tie.Need-returns Inv-loop μ-loop
 returns c =
     let a = c .before .before .before .args in
     c .refuse .ensures ∙ too-long (a .text .now) (c .before .if1 .taken)
 
-no-model-requires : tie.Need-no-model-requires Inv-loop μ-loop
-no-model-requires c κs = search needs
-
 loop-holds : tie.Need-loop-holds Inv-loop μ-loop
 loop-holds c =
     let a = c .before .before .before .args in
     (((omega arith, omega arith), rw (c .no-model .ensures) (sound-none (a .text .now))), begins (a .text .now) (c .before .if1 .left) (c .no-model .ensures))
-
-line-end-requires : tie.Need-line-end-requires Inv-loop μ-loop
-line-end-requires c κs = omega arith
 
 read-line-requires : tie.Need-read-line-requires Inv-loop μ-loop
 read-line-requires c κs = (omega arith, omega arith)
@@ -46,15 +37,6 @@ returns-2 c =
     let l = c .before .before .before .before .before .loop in
     sym (l .inv .1 ∙ stops (a .text .now) (l .at) (c .before .before .before .line-end .result) (c .before .before .before .before .loop-test .taken)
     (c .before .before .before .line-end .ensures .0) (l .m) (l .line) (c .before .before .read-line .result) (c .before .before .read-line .ensures) (c .if2 .taken))
-
-add-at : tie.Need-add-at Inv-loop μ-loop
-add-at c = omega arith
-
-add-line : tie.Need-add-line Inv-loop μ-loop
-add-line c = omega arith
-
-loop-less : tie.Need-loop-less Inv-loop μ-loop
-loop-less c = omega arith
 
 loop-again : tie.Need-loop-again Inv-loop μ-loop
 loop-again c =
@@ -81,16 +63,16 @@ read-model-spec =
     (tie.spec
     Inv-loop
     μ-loop
-    refuse-requires
+    (λ c κs. search needs)
     returns
-    no-model-requires
+    (λ c κs. search needs)
     loop-holds
-    line-end-requires
+    (λ c κs. omega arith)
     read-line-requires
     returns-2
-    add-at
-    add-line
-    loop-less
+    (λ c. omega arith)
+    (λ c. omega arith)
+    (λ c. omega arith)
     loop-again
     finish-requires
     returns-3)

@@ -8,60 +8,6 @@ use borrow.Author.Needs.{needs}
 use Rattle.reading.proofs.start_fits.Statement.{statement}
 use Rattle.reading.proofs.start_fits.Tie as tie
 
-wide-requires : tie.Need-wide-requires
-wide-requires c κs = search needs
-
-smaller-requires : tie.Need-smaller-requires
-smaller-requires c κs = search needs
-
-array-read-asked : tie.Need-array-read-asked
-array-read-asked c = search needs
-
-array-read-asked-2 : tie.Need-array-read-asked-2
-array-read-asked-2 c = search needs
-
-asked-requires : tie.Need-asked-requires
-asked-requires c κs = search needs
-
-array-read-asked-3 : tie.Need-array-read-asked-3
-array-read-asked-3 c = search needs
-
-array-read-asked-4 : tie.Need-array-read-asked-4
-array-read-asked-4 c = search needs
-
-asked-requires-2 : tie.Need-asked-requires-2
-asked-requires-2 c κs = search needs
-
-array-read-asked-5 : tie.Need-array-read-asked-5
-array-read-asked-5 c = search needs
-
-array-read-asked-6 : tie.Need-array-read-asked-6
-array-read-asked-6 c = search needs
-
-asked-requires-3 : tie.Need-asked-requires-3
-asked-requires-3 c κs = search needs
-
-array-read-asked-7 : tie.Need-array-read-asked-7
-array-read-asked-7 c = search needs
-
-array-read-asked-8 : tie.Need-array-read-asked-8
-array-read-asked-8 c = search needs
-
-asked-requires-4 : tie.Need-asked-requires-4
-asked-requires-4 c κs = search needs
-
-and-requires : tie.Need-and-requires
-and-requires c κs = search needs
-
-and-requires-2 : tie.Need-and-requires-2
-and-requires-2 c κs = search needs
-
-and-requires-3 : tie.Need-and-requires-3
-and-requires-3 c κs = search needs
-
-and-requires-4 : tie.Need-and-requires-4
-and-requires-4 c κs = search needs
-
 returns : tie.Need-returns
 returns c =
     let a = c .before .before .before .before .before .before .before .before .before .before .before .before .before .args in
@@ -84,22 +30,22 @@ pub start-fits-spec : {M : Type 1} → statement M
 start-fits-spec =
     tie.close
     (tie.spec
-    wide-requires
-    smaller-requires
-    array-read-asked
-    array-read-asked-2
-    asked-requires
-    array-read-asked-3
-    array-read-asked-4
-    asked-requires-2
-    array-read-asked-5
-    array-read-asked-6
-    asked-requires-3
-    array-read-asked-7
-    array-read-asked-8
-    asked-requires-4
-    and-requires
-    and-requires-2
-    and-requires-3
-    and-requires-4
+    (λ c κs. search needs)
+    (λ c κs. search needs)
+    (λ c. search needs)
+    (λ c. search needs)
+    (λ c κs. search needs)
+    (λ c. search needs)
+    (λ c. search needs)
+    (λ c κs. search needs)
+    (λ c. search needs)
+    (λ c. search needs)
+    (λ c κs. search needs)
+    (λ c. search needs)
+    (λ c. search needs)
+    (λ c κs. search needs)
+    (λ c κs. search needs)
+    (λ c κs. search needs)
+    (λ c κs. search needs)
+    (λ c κs. search needs)
     returns)
