@@ -1,27 +1,14 @@
 -- ONE REPLY: for each public function two results that its contract allows are equal.
 -- Each contract is an equation of the result.
-use Prim.Native.Nat.{ℕ, _<_, min}
+use Prim.Native.Nat.{ℕ}
 use mathlib.Core.Path.{_≡_}
-use mathlib.Core.Bool.{Bool, _&&_}
 use mathlib.Core.List.{List}
 use lib.ListN.{getD}
 use Rattle.meaning.specs.OneReply.{one-reply}
 use Rattle.digits.specs.Digits.{worth-of, bytes-at, padded-at, digit-of}
 
-pub one-wide : (x : ℕ) {r s : ℕ} → (r ≡ x) × (r < 256) → (s ≡ x) × (s < 256) → r ≡ s
-one-wide x p q = one-reply (p .0) (q .0)
-
-pub one-and : (a b : Bool) {r s : Bool} → r ≡ a && b → s ≡ a && b → r ≡ s
-one-and a b = one-reply
-
-pub one-smaller : (a b : ℕ) {r s : ℕ} → r ≡ min a b → s ≡ min a b → r ≡ s
-one-smaller a b = one-reply
-
 pub one-worth : (b : ℕ) {r s : ℕ} → r ≡ worth-of b → s ≡ worth-of b → r ≡ s
 one-worth b = one-reply
-
-pub one-element : (list : List ℕ) (i : ℕ) {r s : ℕ} → r ≡ getD list i 0 → s ≡ getD list i 0 → r ≡ s
-one-element list i = one-reply
 
 pub one-byte : (text : List ℕ) (place size i : ℕ) {r s : ℕ}
     → r ≡ getD (bytes-at text place size) i 0 → s ≡ getD (bytes-at text place size) i 0 → r ≡ s

@@ -1,7 +1,5 @@
 // Hexadecimal digits. The worth of every byte value comes from one table.
 ghost use mathlib.Core.Path.{_≡_};
-ghost use mathlib.Core.Bool.{_&&_};
-ghost use Prim.Native.Nat.{_<_, min};
 ghost use lib.ListN.{getD};
 ghost use Rattle.digits.specs.Digits.{worth-of, pair-of, byte-at, bytes-at, padded-at, digit-of};
 
@@ -264,26 +262,6 @@ const WORTHS: [u8; 256] = [
     255,
 ];
 
-// A byte as an index or a count.
-pub fn wide(x: u8) -> usize
-    ensures { λ r. ⌜ (r ≡ x) × (r < 256) ⌝ }
-{
-    x as usize
-}
-
-// Whether both hold.
-pub fn and(a: bool, b: bool) -> bool
-    ensures { λ r. ⌜ r ≡ a && b ⌝ }
-{
-    if a { b } else { false }
-}
-
-pub fn smaller(a: usize, b: usize) -> usize
-    ensures { λ r. ⌜ r ≡ min a b ⌝ }
-{
-    if a <= b { a } else { b }
-}
-
 // What a byte is worth as a digit; 255 where it is none.
 pub fn worth(b: u8) -> u8
     ensures { λ r. ⌜ r ≡ worth-of b ⌝ }
@@ -305,13 +283,6 @@ fn pair(high: u8, low: u8) -> u8
     high * 16 + low
 }
 
-// What stands at `i` of a list of bytes; 0 past its end.
-pub fn element(list: &[u8], i: usize) -> u8
-    ensures { λ r. ⌜ r ≡ getD (now (list .entry)) i 0 ⌝ }
-{
-    if i < list.len() { list[i] } else { 0 }
-}
-
 // The byte that the digits at `place` and after it make; 0 where they are not two digits.
 fn byte_at(text: &[u8], place: usize) -> u8
     ensures { λ r. ⌜ r ≡ byte-at (now (text .entry)) place ⌝ }
@@ -320,8 +291,8 @@ fn byte_at(text: &[u8], place: usize) -> u8
         return 0;
     }
     let next = place + 1;
-    let high = worth(element(text, place));
-    let low = worth(element(text, next));
+    let high = worth(basics::element(text, place));
+    let low = worth(basics::element(text, next));
     pair(high, low)
 }
 
@@ -348,7 +319,7 @@ pub fn bytes_at(text: &[u8], place: usize, size: usize) -> [u8; 256]
     ensures { λ r. ⌜ r ≡ padded-at (now (text .entry)) place size ⌝ }
 {
     let mut list = [0u8; 256];
-    let count = smaller(size, 256);
+    let count = basics::smaller(size, 256);
     let mut i: usize = 0;
     while i < count {
         list[i] = byte(text, place, size, i);

@@ -72,7 +72,7 @@ fn filled_by(room: usize, n: usize) -> Filled
     ensures { λ r. ⌜ r ≡ filled-of room n ⌝ }
 {
     Filled {
-        count: digits::smaller(n, room),
+        count: basics::smaller(n, room),
         over: room < n,
     }
 }
@@ -127,8 +127,8 @@ fn is_settled(kind: Kind, within: bool, all: bool) -> bool
     match kind {
         Kind::NoFormula => true,
         Kind::Constant(_) => true,
-        Kind::Join(joins) => digits::and(within, alike(joins, all)),
-        Kind::Quantifier(joins) => digits::and(within, alike(joins, all)),
+        Kind::Join(joins) => basics::and(within, alike(joins, all)),
+        Kind::Quantifier(joins) => basics::and(within, alike(joins, all)),
         Kind::Compare(_) => false,
         Kind::Instance => true,
     }
@@ -193,7 +193,7 @@ fn gather(
     if body.len() <= at {
         return at;
     }
-    let kind = formulas::kind_of(digits::element(body, at));
+    let kind = formulas::kind_of(basics::element(body, at));
     let o = opened(body, at, scope, q, kind, within, all, none);
     if !o.left {
         return o.next;
@@ -208,7 +208,7 @@ fn gather(
             gather(body, m, scope, q, true, joins, table, room, none, found)
         }
         Kind::Quantifier(joins) => {
-            let range = digits::element(body, next);
+            let range = basics::element(body, next);
             if 4 <= q {
                 return at;
             }
@@ -401,7 +401,7 @@ fn first_values(equations: [Equation; 8], count: usize, table: &[u32]) -> [u64; 
     while j < table.len() {
         let e = (table[j] / 65536) as usize;
         let equation = equations[e];
-        let u = truth::put(s, j, digits::and(e < count, equation.sign == 1));
+        let u = truth::put(s, j, basics::and(e < count, equation.sign == 1));
         s = u;
         j += 1;
     }

@@ -13,8 +13,8 @@ ghost use Rattle.evaluator.specs.Values.{known, join-value, decides, ind
 ghost use Rattle.evaluator.specs.Replies.{no-value, ValueReply, no-word, WordReply, body-value};
 ghost use Rattle.evaluator.specs.Contract.{TermMeets, TermsMeet, CompareMeets};
 ghost use Rattle.evaluator.specs.Contract.{InstanceMeets, FormulaMeets, FoldMeets};
-use digits::element;
-use digits::wide;
+use basics::element;
+use basics::wide;
 use formulas::Kind;
 use formulas::Scope;
 use formulas::TermKind;

@@ -106,7 +106,7 @@ fn number_of(code: u8) -> u8
     if 0x23 < code {
         return 0;
     }
-    let i = digits::wide(code - 0x10);
+    let i = basics::wide(code - 0x10);
     KINDS[i]
 }
 
@@ -152,7 +152,7 @@ pub fn operands_of(code: u8) -> u8
     if 0x23 < code {
         return 0;
     }
-    let i = digits::wide(code - 0x10);
+    let i = basics::wide(code - 0x10);
     OPERANDS[i]
 }
 
@@ -184,7 +184,7 @@ pub fn variable(scope: Scope, i: u8) -> u8
 pub fn is_range(r: u8) -> bool
     ensures { λ b. ⌜ b ≡ is-range r ⌝ }
 {
-    digits::and(1 <= r, r <= 16)
+    basics::and(1 <= r, r <= 16)
 }
 
 fn term_result(ok: bool, range: u8, next: usize) -> TermSpan
@@ -207,9 +207,9 @@ fn read_term(body: &[u8], at: usize, scope: Scope) -> TermSpan
     if body.len() <= at {
         return term_result(false, 0, at);
     }
-    let code = digits::element(body, at);
-    let x = digits::element(body, at + 1);
-    let next = at + (1 + digits::wide(operands_of(code)));
+    let code = basics::element(body, at);
+    let x = basics::element(body, at + 1);
+    let next = at + (1 + basics::wide(operands_of(code)));
     let kind = term_kind_of(code);
     match kind {
         TermKind::NoTerm => term_result(false, 0, at),
@@ -220,7 +220,7 @@ fn read_term(body: &[u8], at: usize, scope: Scope) -> TermSpan
             term_result(true, x + 1, next)
         }
         TermKind::Variable => {
-            if scope.count <= digits::wide(x) {
+            if scope.count <= basics::wide(x) {
                 return term_result(false, 0, at);
             }
             term_result(true, variable(scope, x), next)
@@ -263,7 +263,7 @@ fn read_arguments(
     if !a.ok {
         return result(false, false, m);
     }
-    let fit = a.range <= digits::element(signatures, j);
+    let fit = a.range <= basics::element(signatures, j);
     read_arguments(
         body,
         m,
@@ -271,7 +271,7 @@ fn read_arguments(
         c - 1,
         signatures,
         j + 1,
-        digits::and(fits, fit),
+        basics::and(fits, fit),
     )
 }
 
@@ -281,14 +281,14 @@ fn read_instance(body: &[u8], at: usize, first: usize, scope: Scope, signatures:
     ensures { λ r. ⌜ InstanceTold (signatures-in (now (signatures .entry))) (now (body .entry)) scope at
         (r .ok) (r .fits) (r .next) ⌝ }
 {
-    let x = digits::wide(digits::element(body, at));
-    let c = digits::element(body, at + 1);
+    let x = basics::wide(basics::element(body, at));
+    let c = basics::element(body, at + 1);
     if 4 < c {
         return result(false, false, at);
     }
-    let count = digits::wide(digits::element(signatures, 40));
-    let k = digits::element(signatures, 5 * x + 4);
-    let named = digits::and(x < count, c == k);
+    let count = basics::wide(basics::element(signatures, 40));
+    let k = basics::element(signatures, 5 * x + 4);
+    let named = basics::and(x < count, c == k);
     read_arguments(body, first, scope, c, signatures, 5 * x, named)
 }
 
@@ -311,8 +311,8 @@ fn read_formula(
     if limit <= at {
         return result(false, false, at);
     }
-    let code = digits::element(body, at);
-    let next = at + (1 + digits::wide(operands_of(code)));
+    let code = basics::element(body, at);
+    let next = at + (1 + basics::wide(operands_of(code)));
     let kind = kind_of(code);
     match kind {
         Kind::NoFormula => result(false, false, at),
@@ -326,13 +326,13 @@ fn read_formula(
             }
             let fits = a.fits;
             a = read_formula(body, m, limit, scope, q, signatures);
-            result(a.ok, digits::and(fits, a.fits), a.next)
+            result(a.ok, basics::and(fits, a.fits), a.next)
         }
         Kind::Quantifier(_) => {
             if 4 <= q {
                 return result(false, false, at);
             }
-            let r = digits::element(body, at + 1);
+            let r = basics::element(body, at + 1);
             if !is_range(r) {
                 return result(false, false, at);
             }
@@ -357,7 +357,7 @@ fn parameters_of(e: Equation) -> Scope
 {
     let r = e.ranges;
     let values = [r[0], r[1], r[2], r[3], 0, 0, 0, 0];
-    let count = digits::smaller(digits::wide(e.k), 4);
+    let count = basics::smaller(basics::wide(e.k), 4);
     Scope { values, count }
 }
 
@@ -369,7 +369,7 @@ fn signature_byte(e: Equation, i: usize) -> u8
     if i < 4 {
         ranges[i]
     } else {
-        digits::smaller(digits::wide(e.k), 4) as u8
+        basics::smaller(basics::wide(e.k), 4) as u8
     }
 }
 
@@ -378,7 +378,7 @@ fn signatures_of(equations: [Equation; 8], count: usize) -> [u8; 41]
     ensures { λ r. ⌜ signatures-in r ≡ signatures-of equations count ⌝ }
 {
     let mut table = [0u8; 41];
-    table[40] = digits::smaller(count, 8) as u8;
+    table[40] = basics::smaller(count, 8) as u8;
     let mut j: usize = 0;
     while j < 40 {
         table[j] = signature_byte(equations[j / 5], j % 5);
@@ -408,7 +408,7 @@ pub fn is_body(text: &[u8], e: Equation) -> bool
     let a = read_body(text, e, [e; 8], 0);
     let size = e.length;
     let m = a.next;
-    digits::and(a.ok, m == size)
+    basics::and(a.ok, m == size)
 }
 
 // Whether the instances in the body of e fit the first `count` of the equations.

@@ -98,7 +98,7 @@ fn instance_frame(equations: [Equation; 8], word: u32, value: bool) -> Frame
 {
     let e = (word / 65536) as usize;
     let equation = equations[e];
-    let k = digits::wide(equation.k);
+    let k = basics::wide(equation.k);
     let mut bytes = [
         4,
         (word / 65536) as u8,

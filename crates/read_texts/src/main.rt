@@ -25,7 +25,7 @@ fn judge(buffer: &mut [u8]) {
 
 // Reads a text of n bytes, or of as many as the buffer holds.
 fn judge_first(buffer: &mut [u8], n: usize) {
-    let m = digits::smaller(n, buffer.len());
+    let m = basics::smaller(n, buffer.len());
     judge(&mut buffer[..m]);
 }
 
@@ -38,7 +38,7 @@ fn turn() -> bool {
     }
     let high = digits::byte(&head, 0, 2, 0);
     let rest = digits::byte(&head, 0, 2, 1);
-    let size = digits::wide(high) * 256 + digits::wide(rest);
+    let size = basics::wide(high) * 256 + basics::wide(rest);
     let mut buffer = io::large_buffer();
     judge_first(&mut buffer, size);
     true

@@ -118,18 +118,11 @@ fn all_digits(text: &[u8], at: usize, end: usize) -> bool
 
 // ---- heads
 
-// a - b, or 0 where b is greater.
-fn difference(a: usize, b: usize) -> usize
-    ensures { λ r. ⌜ r ≡ a - b ⌝ }
-{
-    if b <= a { a - b } else { 0 }
-}
-
 fn range_of(text: &[u8], place: usize, size: usize, i: usize) -> u8
     requires { ⌜ i < 4 ⌝ }
     ensures { λ r. ⌜ r ≡ range-of (bytes-at (now (text .entry)) place size) i ⌝ }
 {
-    let k = digits::wide(digits::byte(text, place, size, 2));
+    let k = basics::wide(digits::byte(text, place, size, 2));
     if i < k {
         digits::byte(text, place, size, 3 + i)
     } else {
@@ -148,9 +141,9 @@ fn equation_record(text: &[u8], place: usize, size: usize) -> Equation
     let r1 = range_of(text, place, size, 1);
     let r2 = range_of(text, place, size, 2);
     let r3 = range_of(text, place, size, 3);
-    let head = 3 + digits::wide(k);
+    let head = 3 + basics::wide(k);
     let body = place + 2 * head;
-    let left = difference(size, head);
+    let left = basics::rest(size, head);
     Equation {
         sign,
         k,
@@ -167,18 +160,18 @@ fn ranges_right(r: [u8; 4]) -> bool
     let b = formulas::is_range(r[1]);
     let c = formulas::is_range(r[2]);
     let d = formulas::is_range(r[3]);
-    digits::and(a, digits::and(b, digits::and(c, d)))
+    basics::and(a, basics::and(b, basics::and(c, d)))
 }
 
 fn head_right(size: usize, e: Equation) -> bool
     ensures { λ r. ⌜ r ≡ head-right size e ⌝ }
 {
-    let head = 3 + digits::wide(e.k);
+    let head = 3 + basics::wide(e.k);
     let ranges = e.ranges;
     let r = ranges_right(ranges);
-    digits::and(
+    basics::and(
         head <= size,
-        digits::and(e.sign <= 1, digits::and(e.k <= 4, r)),
+        basics::and(e.sign <= 1, basics::and(e.k <= 4, r)),
     )
 }
 
@@ -190,7 +183,7 @@ fn start_record(text: &[u8], place: usize, size: usize, line: usize) -> Start
     let a1 = digits::byte(text, place, size, 3);
     let a2 = digits::byte(text, place, size, 4);
     let a3 = digits::byte(text, place, size, 5);
-    let count = difference(size, 2);
+    let count = basics::rest(size, 2);
     Start {
         line,
         equation,
@@ -288,9 +281,9 @@ fn is_shaped(text: &[u8], at: usize, end: usize) -> bool
     ensures { λ r. ⌜ r ≡ is-shaped (line-at (now (text .entry)) at end) ⌝ }
 {
     let size = end - at;
-    let whole = digits::and(end < text.len(), 1 <= size);
+    let whole = basics::and(end < text.len(), 1 <= size);
     let even = size % 2 == 0;
-    digits::and(whole, digits::and(size <= 512, even))
+    basics::and(whole, basics::and(size <= 512, even))
 }
 
 fn read_line(text: &[u8], m: Model, line: usize, at: usize, end: usize) -> Reading
@@ -309,26 +302,19 @@ fn read_line(text: &[u8], m: Model, line: usize, at: usize, end: usize) -> Readi
 
 // ---- after the lines
 
-// A test that is asked only where something is there.
-fn asked(there: bool, test: bool) -> bool
-    ensures { λ b. ⌜ b ≡ cond there test true ⌝ }
-{
-    if there { test } else { true }
-}
-
 // Whether there are as many arguments as e has parameters, each below its range.
 fn start_fits(s: Start, e: Equation) -> bool
     ensures { λ r. ⌜ r ≡ leb (s .count) 4 && within (take (s .count) (s .arguments)) (ranges-of e) ⌝ }
 {
-    let k = digits::smaller(digits::wide(e.k), 4);
+    let k = basics::smaller(basics::wide(e.k), 4);
     let a = s.arguments;
     let r = e.ranges;
-    let b0 = asked(0 < k, a[0] < r[0]);
-    let b1 = asked(1 < k, a[1] < r[1]);
-    let b2 = asked(2 < k, a[2] < r[2]);
-    let b3 = asked(3 < k, a[3] < r[3]);
-    let all = digits::and(b0, digits::and(b1, digits::and(b2, b3)));
-    digits::and(s.count == k, all)
+    let b0 = basics::implies(0 < k, a[0] < r[0]);
+    let b1 = basics::implies(1 < k, a[1] < r[1]);
+    let b2 = basics::implies(2 < k, a[2] < r[2]);
+    let b3 = basics::implies(3 < k, a[3] < r[3]);
+    let all = basics::and(b0, basics::and(b1, basics::and(b2, b3)));
+    basics::and(s.count == k, all)
 }
 
 fn start_right(m: Model) -> bool
@@ -336,7 +322,7 @@ fn start_right(m: Model) -> bool
     ensures { λ r. ⌜ r ≡ start-right m ⌝ }
 {
     let s = m.start;
-    let i = digits::wide(s.equation);
+    let i = basics::wide(s.equation);
     if m.count <= i {
         return false;
     }

@@ -23,7 +23,7 @@ fn answer(buffer: &mut [u8]) {
 
 // Reads a text of n bytes, or of as many as the buffer holds.
 fn answer_first(buffer: &mut [u8], n: usize) {
-    let m = digits::smaller(n, buffer.len());
+    let m = basics::smaller(n, buffer.len());
     answer(&mut buffer[..m]);
 }
 
@@ -36,7 +36,7 @@ fn turn() -> bool {
     }
     let high = digits::byte(&head, 0, 4, 2);
     let low = digits::byte(&head, 0, 4, 3);
-    let size = digits::wide(high) * 256 + digits::wide(low);
+    let size = basics::wide(high) * 256 + basics::wide(low);
     let mut buffer = io::large_buffer();
     answer_first(&mut buffer, size);
     true

@@ -17,22 +17,10 @@ returns-2 c =
     let a = c .before .before .before .args in
     sym (byte-none (a .text .now) (a .place) (a .size) (a .i) (c .before .if1 .left) (omega arith))
 
-sub-rest : tie.Need-sub-rest
-sub-rest c = search needs
-
 returns-3 : tie.Need-returns-3
 returns-3 c =
     let a = c .before .before .before .before .args in
     sym (byte-none (a .text .now) (a .place) (a .size) (a .i) (c .before .before .if1 .left) (omega arith))
-
-mul-there : tie.Need-mul-there
-mul-there c = search needs
-
-add-there : tie.Need-add-there
-add-there c = search needs
-
-byte-at-requires : tie.Need-byte-at-requires
-byte-at-requires c κs = search needs
 
 returns-4 : tie.Need-returns-4
 returns-4 c =
@@ -42,4 +30,12 @@ returns-4 c =
 pub byte-spec : {M : Type 1} → statement M
 byte-spec =
     tie.close
-    (tie.spec returns returns-2 sub-rest returns-3 mul-there add-there byte-at-requires returns-4)
+    (tie.spec
+    returns
+    returns-2
+    (λ c. search needs)
+    returns-3
+    (λ c. search needs)
+    (λ c. search needs)
+    (λ c κs. search needs)
+    returns-4)

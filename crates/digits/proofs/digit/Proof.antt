@@ -5,14 +5,8 @@ use borrow.Author.Needs.{needs}
 use Rattle.digits.proofs.digit.Statement.{statement}
 use Rattle.digits.proofs.digit.Tie as tie
 
-add-result : tie.Need-add-result
-add-result c = search needs
-
 returns : tie.Need-returns
 returns c = simp (le-leb _ _ (c .if1 .taken))
-
-add-result-2 : tie.Need-add-result-2
-add-result-2 c = search needs
 
 returns-2 : tie.Need-returns-2
 returns-2 c = simp (lt-leb _ _ (c .before .if1 .left), le-leb _ _ (c .if2 .taken))
@@ -21,4 +15,4 @@ returns-3 : tie.Need-returns-3
 returns-3 c = simp (lt-leb _ _ (c .before .if1 .left), lt-leb _ _ (c .if2 .left))
 
 pub digit-spec : {M : Type 1} → statement M
-digit-spec = tie.close (tie.spec add-result returns add-result-2 returns-2 returns-3)
+digit-spec = tie.close (tie.spec (λ c. search needs) returns (λ c. search needs) returns-2 returns-3)

@@ -5,11 +5,8 @@ use borrow.Author.Needs.{needs}
 use Rattle.digits.proofs.worth.Statement.{statement}
 use Rattle.digits.proofs.worth.Tie as tie
 
-array-read-result : tie.Need-array-read-result
-array-read-result c = search needs
-
 returns : tie.Need-returns
 returns c = follows (c .args .b) (search needs)
 
 pub worth-spec : {M : Type 1} → statement M
-worth-spec = tie.close (tie.spec array-read-result returns)
+worth-spec = tie.close (tie.spec (λ c. search needs) returns)

@@ -18,7 +18,7 @@ use Rattle.engine.proofs.+gather+gather_fold.Lts-gather as gather-lts
 use Rattle.engine.proofs.gather_fold.Reads as gather-fold
 use Rattle.engine.proofs.gather_fold.Kinds as gather-fold-kinds
 use Rattle.engine.proofs.+gather+gather_fold.Lts-gather_fold as gather-fold-lts
-use Rattle.digits.proofs.element.Reads as element-reads
+use Rattle.basics.proofs.element.Reads as element-reads
 use Rattle.engine.proofs.add_word.Reads as add-word-reads
 use Rattle.engine.proofs.opened.Reads as opened-reads
 use Rattle.evaluator.proofs.word_at.Reads as word-at-reads

@@ -28,12 +28,6 @@ cast-if1 c = omega (arith, c .shared-slice-known3 .given (c .before .before .loo
 right-side-requires : tie.Need-right-side-requires Inv-loop μ-loop
 right-side-requires c κs = c .before .before .before .before .before .before .before .pre .each (c .before .before .before .before .loop .j) (omega arith)
 
-is-true-requires : tie.Need-is-true-requires Inv-loop μ-loop
-is-true-requires c κs = tt
-
-put-requires : tie.Need-put-requires Inv-loop μ-loop
-put-requires c κs = tt
-
 loop-again : tie.Need-loop-again Inv-loop μ-loop
 unfolding sides
 loop-again c =
@@ -62,8 +56,8 @@ step-spec =
     (λ c. omega arith)
     cast-if1
     right-side-requires
-    is-true-requires
-    put-requires
+    (λ c κs. tt)
+    (λ c κs. tt)
     (λ c. omega arith)
     (λ c. omega arith)
     loop-again

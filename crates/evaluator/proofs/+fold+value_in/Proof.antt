@@ -28,7 +28,7 @@ use Rattle.evaluator.proofs.+fold+value_in.Lts-fold as fold-lts
 use Rattle.evaluator.proofs.value_in.Reads as value-in
 use Rattle.evaluator.proofs.value_in.Kinds as value-in-kinds
 use Rattle.evaluator.proofs.+fold+value_in.Lts-value_in as value-in-lts
-use Rattle.digits.proofs.element.Reads as element-reads
+use Rattle.basics.proofs.element.Reads as element-reads
 use Rattle.evaluator.proofs.compare.Reads as compare-reads
 use Rattle.evaluator.proofs.decides.Reads as decides-reads
 use Rattle.evaluator.proofs.instance.Reads as instance-reads

@@ -19,8 +19,8 @@ use borrow.Fn.PlainCycle.{Measures, is, falls, and}
 use Rattle.evaluator.proofs.term.Reads as term
 use Rattle.evaluator.proofs.term.Kinds as term-kinds
 use Rattle.evaluator.proofs.+term.Lts-term as term-lts
-use Rattle.digits.proofs.element.Reads as element-reads
-use Rattle.digits.proofs.wide.Reads as wide-reads
+use Rattle.basics.proofs.element.Reads as element-reads
+use Rattle.basics.proofs.wide.Reads as wide-reads
 use Rattle.evaluator.proofs.calculate.Reads as calculate-reads
 use Rattle.evaluator.proofs.no_term.Reads as no-term-reads
 use Rattle.formulas.proofs.is_range.Reads as is-range-reads

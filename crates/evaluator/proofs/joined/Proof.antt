@@ -4,12 +4,6 @@ use borrow.Author.Needs.{needs}
 use Rattle.evaluator.proofs.joined.Statement.{statement}
 use Rattle.evaluator.proofs.joined.Tie as tie
 
-both-requires : tie.Need-both-requires
-both-requires c κs = search needs
-
-either-requires : tie.Need-either-requires
-either-requires c κs = search needs
-
 returns : tie.Need-returns
 returns c = rw (c .before .if1 .taken) (c .both .ensures)
 
@@ -17,4 +11,4 @@ returns-2 : tie.Need-returns-2
 returns-2 c = rw (c .before .if1 .left) (c .either .ensures)
 
 pub joined-spec : {M : Type 1} → statement M
-joined-spec = tie.close (tie.spec both-requires either-requires returns returns-2)
+joined-spec = tie.close (tie.spec (λ c κs. search needs) (λ c κs. search needs) returns returns-2)

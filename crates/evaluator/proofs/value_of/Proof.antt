@@ -8,15 +8,6 @@ use Rattle.evaluator.specs.Values.{known, assignment}
 use Rattle.evaluator.proofs.value_of.Statement.{statement}
 use Rattle.evaluator.proofs.value_of.Tie as tie
 
-lookup-requires : tie.Need-lookup-requires
-lookup-requires c κs = search needs
-
-has-requires : tie.Need-has-requires
-has-requires c κs = search needs
-
-known-requires : tie.Need-known-requires
-known-requires c κs = search needs
-
 returns : tie.Need-returns
 unfolding assignment
 returns c =
@@ -31,4 +22,11 @@ returns-2 c =
     rw (← j .ensures, le-ltb (j .result) (length (c .before .before .before .args .table .now)) (c .if1 .left)) refl
 
 pub value-of-spec : {M : Type 1} → statement M
-value-of-spec = tie.close (tie.spec lookup-requires has-requires known-requires returns returns-2)
+value-of-spec =
+    tie.close
+    (tie.spec
+    (λ c κs. search needs)
+    (λ c κs. search needs)
+    (λ c κs. search needs)
+    returns
+    returns-2)

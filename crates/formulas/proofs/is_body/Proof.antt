@@ -6,14 +6,8 @@ use borrow.Author.Needs.{needs}
 use Rattle.formulas.proofs.is_body.Statement.{statement}
 use Rattle.formulas.proofs.is_body.Tie as tie
 
-read-body-requires : tie.Need-read-body-requires
-read-body-requires c κs = search needs
-
-and-requires : tie.Need-and-requires
-and-requires c κs = search needs
-
 returns : tie.Need-returns
 returns c = c .and .ensures ∙ body-judged _ _ (c .before .read-body .ensures)
 
 pub is-body-spec : {M : Type 1} → statement M
-is-body-spec = tie.close (tie.spec read-body-requires and-requires returns)
+is-body-spec = tie.close (tie.spec (λ c κs. search needs) (λ c κs. search needs) returns)

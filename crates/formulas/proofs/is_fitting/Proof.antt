@@ -5,9 +5,6 @@ use borrow.Author.Needs.{needs}
 use Rattle.formulas.proofs.is_fitting.Statement.{statement}
 use Rattle.formulas.proofs.is_fitting.Tie as tie
 
-read-body-requires : tie.Need-read-body-requires
-read-body-requires c κs = search needs
-
 returns : tie.Need-returns
 returns c =
     let a = c .before .before .before .args in
@@ -19,4 +16,4 @@ returns-2 c =
     fitting-lost (a .text .now) (a .e) (a .equations) (a .count) (rw (c .if1 .left) at (c .before .read-body .ensures))
 
 pub is-fitting-spec : {M : Type 1} → statement M
-is-fitting-spec = tie.close (tie.spec read-body-requires returns returns-2)
+is-fitting-spec = tie.close (tie.spec (λ c κs. search needs) returns returns-2)

@@ -6,11 +6,8 @@ use borrow.Author.Needs.{needs}
 use Rattle.formulas.proofs.is_range.Statement.{statement}
 use Rattle.formulas.proofs.is_range.Tie as tie
 
-and-requires : tie.Need-and-requires
-and-requires c κs = search needs
-
 returns : tie.Need-returns
 returns c = c .and .ensures ∙ and-same _ _
 
 pub is-range-spec : {M : Type 1} → statement M
-is-range-spec = tie.close (tie.spec and-requires returns)
+is-range-spec = tie.close (tie.spec (λ c κs. search needs) returns)

@@ -10,12 +10,6 @@ use lib.Seq.{take-suc-set}
 use Rattle.formulas.proofs.push.Statement.{statement}
 use Rattle.formulas.proofs.push.Tie as tie
 
-element-write-s : tie.Need-element-write-s
-element-write-s c = search needs
-
-add-s : tie.Need-add-s
-add-s c = search needs
-
 returns : tie.Need-returns
 returns c =
     let a = c .before .args in
@@ -30,4 +24,4 @@ returns-2 c =
     (rw (le-ltb (a .scope .count) 8 (c .if1 .left)) refl, λ h. absurd (omega arith))
 
 pub push-spec : {M : Type 1} → statement M
-push-spec = tie.close (tie.spec element-write-s add-s returns returns-2)
+push-spec = tie.close (tie.spec (λ c. search needs) (λ c. search needs) returns returns-2)

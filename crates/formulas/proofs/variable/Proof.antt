@@ -13,9 +13,6 @@ returns c =
     let s = c .before .args .t1 in
     sym (List·getD-eq-default (take (s .count) (s .values)) 0 (omega (arith, length-take (s .count) (s .values))))
 
-element-copy-out-result : tie.Need-element-copy-out-result
-element-copy-out-result c = search needs
-
 returns-2 : tie.Need-returns-2
 returns-2 c =
     let a = c .before .before .before .args in
@@ -28,4 +25,4 @@ returns-3 c =
     sym (getD-take (a .t1 .count) (a .t1 .values) (a .i) 0 (c .before .if1 .left) ∙ List·getD-eq-default (a .t1 .values) 0 (rw g (c .if2 .left)))
 
 pub variable-spec : {M : Type 1} → statement M
-variable-spec = tie.close (tie.spec returns element-copy-out-result returns-2 returns-3)
+variable-spec = tie.close (tie.spec returns (λ c. search needs) returns-2 returns-3)

@@ -14,7 +14,7 @@ returns c =
     rw (
       length-bytes (a .text .now) (a .place)
           (a .size),
-      c .difference .ensures,
+      c .rest .ensures,
       c .before .wide .ensures .0,
       c .before .before .range-of4 .ensures,
       c .before .before .before .range-of3 .ensures,

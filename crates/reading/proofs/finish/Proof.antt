@@ -7,16 +7,10 @@ use borrow.Author.Needs.{needs}
 use Rattle.reading.proofs.finish.Statement.{statement}
 use Rattle.reading.proofs.finish.Tie as tie
 
-refuse-requires : tie.Need-refuse-requires
-refuse-requires c κs = search needs
-
 returns : tie.Need-returns
 returns c =
     let a = c .before .before .before .before .args in
     c .refuse .ensures ∙ finish-none (a .text .now) (a .m) (a .line) (not-true _ (c .before .if1 .taken))
-
-judge-instances-requires : tie.Need-judge-instances-requires
-judge-instances-requires c κs = search needs
 
 returns-2 : tie.Need-returns-2
 returns-2 c =
@@ -24,4 +18,4 @@ returns-2 c =
     c .judge-instances .ensures ∙ finish-some (a .text .now) (a .m) (a .line) (not-false _ (c .before .if1 .left))
 
 pub finish-spec : {M : Type 1} → statement M
-finish-spec = tie.close (tie.spec refuse-requires returns judge-instances-requires returns-2)
+finish-spec = tie.close (tie.spec (λ c κs. search needs) returns (λ c κs. search needs) returns-2)

@@ -5,18 +5,6 @@ use borrow.Author.Needs.{needs}
 use Rattle.reading.proofs.is_shaped.Statement.{statement}
 use Rattle.reading.proofs.is_shaped.Tie as tie
 
-sub-size : tie.Need-sub-size
-sub-size c = search needs
-
-and-requires : tie.Need-and-requires
-and-requires c κs = search needs
-
-and-requires-2 : tie.Need-and-requires-2
-and-requires-2 c κs = search needs
-
-and-requires-3 : tie.Need-and-requires-3
-and-requires-3 c κs = search needs
-
 returns : tie.Need-returns
 returns c =
     let a = c .before .before .before .before .args in
@@ -24,4 +12,11 @@ returns c =
     (c .and3 .ensures)
 
 pub is-shaped-spec : {M : Type 1} → statement M
-is-shaped-spec = tie.close (tie.spec sub-size and-requires and-requires-2 and-requires-3 returns)
+is-shaped-spec =
+    tie.close
+    (tie.spec
+    (λ c. search needs)
+    (λ c κs. search needs)
+    (λ c κs. search needs)
+    (λ c κs. search needs)
+    returns)

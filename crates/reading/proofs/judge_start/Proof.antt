@@ -7,20 +7,11 @@ use borrow.Author.Needs.{needs}
 use Rattle.reading.proofs.judge_start.Statement.{statement}
 use Rattle.reading.proofs.judge_start.Tie as tie
 
-start-right-requires : tie.Need-start-right-requires
-start-right-requires c κs = search needs
-
-refuse-requires : tie.Need-refuse-requires
-refuse-requires c κs = search needs
-
 returns : tie.Need-returns
 unfolding start-judged
 returns c =
     let e = sym (c .before .before .before .start-right .ensures) ∙ not-true _ (c .before .before .if1 .taken) in
     rw e (c .refuse .ensures)
-
-accept-requires : tie.Need-accept-requires
-accept-requires c κs = search needs
 
 returns-2 : tie.Need-returns-2
 unfolding start-judged
@@ -30,4 +21,10 @@ returns-2 c =
 
 pub judge-start-spec : {M : Type 1} → statement M
 judge-start-spec =
-    tie.close (tie.spec start-right-requires refuse-requires returns accept-requires returns-2)
+    tie.close
+    (tie.spec
+    (λ c κs. search needs)
+    (λ c κs. search needs)
+    returns
+    (λ c κs. search needs)
+    returns-2)

@@ -7,18 +7,6 @@ use borrow.Author.Needs.{needs}
 use Rattle.reading.proofs.range_of.Statement.{statement}
 use Rattle.reading.proofs.range_of.Tie as tie
 
-byte-requires : tie.Need-byte-requires
-byte-requires c κs = search needs
-
-wide-requires : tie.Need-wide-requires
-wide-requires c κs = search needs
-
-add-byte : tie.Need-add-byte
-add-byte c = search needs
-
-byte-requires-2 : tie.Need-byte-requires-2
-byte-requires-2 c κs = search needs
-
 returns : tie.Need-returns
 returns c =
     let a = c .before .before .before .before .before .args in
@@ -32,4 +20,11 @@ returns-2 c =
 
 pub range-of-spec : {M : Type 1} → statement M
 range-of-spec =
-    tie.close (tie.spec byte-requires wide-requires add-byte byte-requires-2 returns returns-2)
+    tie.close
+    (tie.spec
+    (λ c κs. search needs)
+    (λ c κs. search needs)
+    (λ c. search needs)
+    (λ c κs. search needs)
+    returns
+    returns-2)

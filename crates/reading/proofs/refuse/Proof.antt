@@ -5,11 +5,8 @@ use borrow.Author.Needs.{needs}
 use Rattle.reading.proofs.refuse.Statement.{statement}
 use Rattle.reading.proofs.refuse.Tie as tie
 
-no-model-requires : tie.Need-no-model-requires
-no-model-requires c κs = search needs
-
 returns : tie.Need-returns
 returns c = rw (c .no-model .ensures) refl
 
 pub refuse-spec : {M : Type 1} → statement M
-refuse-spec = tie.close (tie.spec no-model-requires returns)
+refuse-spec = tie.close (tie.spec (λ c κs. search needs) returns)

@@ -17,10 +17,10 @@ returns c =
     let smaller = c .before .before .before .before .before .before .before .before .before .before .before .smaller in
     let m = smaller .ensures ∙ ap (λ (x : ℕ). min x 4) (wide .ensures .0) in
     arguments-judged (a .s .count) (a .e .k) (smaller .result) (a .s .arguments) (a .e .ranges) n r m
-    (c .before .before .before .before .before .before .before .before .asked .ensures)
-    (c .before .before .before .before .before .before .before .asked2 .ensures)
-    (c .before .before .before .before .before .before .asked3 .ensures)
-    (c .before .before .before .before .before .asked4 .ensures)
+    (c .before .before .before .before .before .before .before .before .implies .ensures)
+    (c .before .before .before .before .before .before .before .implies2 .ensures)
+    (c .before .before .before .before .before .before .implies3 .ensures)
+    (c .before .before .before .before .before .implies4 .ensures)
     (c .before .before .before .before .and .ensures)
     (c .before .before .before .and2 .ensures)
     (c .before .before .and3 .ensures)

@@ -14,7 +14,7 @@ returns c =
     rw (
       length-bytes (a .text .now) (a .place)
           (a .size),
-      c .difference .ensures,
+      c .rest .ensures,
       c .before .byte5 .ensures,
       c .before .before .byte4 .ensures,
       c .before .before .before .byte3 .ensures,

@@ -6,22 +6,10 @@ use borrow.Author.Needs.{needs}
 use Rattle.reading.proofs.start_right.Statement.{statement}
 use Rattle.reading.proofs.start_right.Tie as tie
 
-wide-requires : tie.Need-wide-requires
-wide-requires c κs = search needs
-
 returns : tie.Need-returns
 returns c =
     let a = c .before .before .before .args in
     start-unnamed (a .t1) (omega arith) (c .before .wide .ensures .0) (c .if1 .taken)
-
-mul-e : tie.Need-mul-e
-mul-e c = search needs
-
-element-copy-out-e : tie.Need-element-copy-out-e
-element-copy-out-e c = search needs
-
-start-fits-requires : tie.Need-start-fits-requires
-start-fits-requires c κs = search needs
 
 returns-2 : tie.Need-returns-2
 returns-2 c =
@@ -31,4 +19,10 @@ returns-2 c =
 pub start-right-spec : {M : Type 1} → statement M
 start-right-spec =
     tie.close
-    (tie.spec wide-requires returns mul-e element-copy-out-e start-fits-requires returns-2)
+    (tie.spec
+    (λ c κs. search needs)
+    returns
+    (λ c. search needs)
+    (λ c. search needs)
+    (λ c κs. search needs)
+    returns-2)

@@ -7,8 +7,8 @@ use borrow.Fn.PlainCycle.{Measures}
 use Rattle.formulas.proofs.+read_arguments.Lts-read_arguments as arguments
 use Rattle.formulas.proofs.read_arguments.Kinds as of-arguments
 use Rattle.formulas.proofs.read_arguments.Reads as read-arguments
-use Rattle.digits.proofs.and.Reads as and-reads
-use Rattle.digits.proofs.element.Reads as element-reads
+use Rattle.basics.proofs.and.Reads as and-reads
+use Rattle.basics.proofs.element.Reads as element-reads
 use Rattle.formulas.proofs.read_term.Reads as read-term-reads
 use Rattle.formulas.proofs.result.Reads as result-reads
 

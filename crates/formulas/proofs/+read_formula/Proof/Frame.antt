@@ -7,9 +7,9 @@ use borrow.Fn.PlainCycle.{Measures}
 use Rattle.formulas.proofs.+read_formula.Lts-read_formula as formula
 use Rattle.formulas.proofs.read_formula.Kinds as of-formula
 use Rattle.formulas.proofs.read_formula.Reads as read-formula
-use Rattle.digits.proofs.and.Reads as and-reads
-use Rattle.digits.proofs.element.Reads as element-reads
-use Rattle.digits.proofs.wide.Reads as wide-reads
+use Rattle.basics.proofs.and.Reads as and-reads
+use Rattle.basics.proofs.element.Reads as element-reads
+use Rattle.basics.proofs.wide.Reads as wide-reads
 use Rattle.formulas.proofs.is_range.Reads as is-range-reads
 use Rattle.formulas.proofs.kind_of.Reads as kind-of-reads
 use Rattle.formulas.proofs.operands_of.Reads as operands-of-reads

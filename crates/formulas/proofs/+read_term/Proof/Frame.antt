@@ -8,8 +8,8 @@ use borrow.Fn.PlainCycle.{Measures}
 use Rattle.formulas.proofs.+read_term.Lts-read_term as term
 use Rattle.formulas.proofs.read_term.Kinds as of-term
 use Rattle.formulas.proofs.read_term.Reads as read-term
-use Rattle.digits.proofs.element.Reads as element-reads
-use Rattle.digits.proofs.wide.Reads as wide-reads
+use Rattle.basics.proofs.element.Reads as element-reads
+use Rattle.basics.proofs.wide.Reads as wide-reads
 use Rattle.formulas.proofs.is_range.Reads as is-range-reads
 use Rattle.formulas.proofs.operands_of.Reads as operands-of-reads
 use Rattle.formulas.proofs.term_kind_of.Reads as term-kind-of-reads
