@@ -6,7 +6,7 @@ ghost use Prim.Native.Nat.{_+_, _≤_, _<_, _*_, _-_, _/_};
 ghost use lib.ListN.{length, take, getD};
 ghost use Rattle.answers.specs.Answers.{answer, refusal, room-of, bit, table-after};
 ghost use Rattle.answers.specs.declared.Answer.{Answer};
-ghost use Rattle.formulas.specs.Scopes.{seen};
+ghost use Rattle.formulas.specs.Tuples.{items};
 ghost use Rattle.meaning.specs.WordLaws.{arguments-of};
 ghost use Rattle.meaning.specs.Words.{word};
 ghost use Rattle.reading.specs.Reading.{reading};
@@ -25,7 +25,7 @@ use answers::Answer;
 use evaluator::Value;
 use formulas::Equation;
 use formulas::Kind;
-use formulas::Scope;
+use formulas::Tuple;
 use reading::Model;
 use reading::Start;
 
@@ -44,16 +44,16 @@ fn decode(text: &[u8], equations: [Equation; 8]) -> [u8; 2048]
 }
 
 // The k arguments of a word, as the variables in reach.
-fn scope_of(w: u32, k: u8) -> Scope
+fn scope_of(w: u32, k: u8) -> Tuple
     requires { ⌜ k ≤ 4 ⌝ }
-    ensures { λ r. ⌜ (r .count ≡ k) × (seen r ≡ arguments-of k w) ⌝ }
+    ensures { λ r. ⌜ (r .count ≡ k) × (items r ≡ arguments-of k w) ⌝ }
 {
     let mut values = [0u8; 8];
     values[0] = (w / 4096 % 16) as u8;
     values[1] = (w / 256 % 16) as u8;
     values[2] = (w / 16 % 16) as u8;
     values[3] = (w % 16) as u8;
-    Scope {
+    Tuple {
         values,
         count: k as usize,
     }
@@ -140,7 +140,7 @@ fn is_settled(kind: Kind, within: bool, all: bool) -> bool
 fn opened(
     body: &[u8],
     at: usize,
-    scope: Scope,
+    scope: Tuple,
     q: u8,
     kind: Kind,
     within: bool,
@@ -177,7 +177,7 @@ fn opened(
 fn gather(
     body: &[u8],
     at: usize,
-    scope: Scope,
+    scope: Tuple,
     q: u8,
     within: bool,
     all: bool,
@@ -243,7 +243,7 @@ fn gather(
 fn gather_fold(
     body: &[u8],
     at: usize,
-    scope: Scope,
+    scope: Tuple,
     q: u8,
     all: bool,
     x: u8,

@@ -8,10 +8,10 @@ use lib.Dec.{leb}
 use lib.ListN.{length}
 use Rattle.meaning.specs.Formulas.{Formula, constant, joined, quantified, compared, instance, values}
 use Rattle.meaning.specs.Words.{word}
-use Rattle.formulas.specs.declared.Scope.{Scope}
+use Rattle.formulas.specs.declared.Tuple.{Tuple}
 use Rattle.formulas.specs.Bodies.{found}
 use Rattle.formulas.specs.Decode.{Parsed, none, some, when, formula-at}
-use Rattle.formulas.specs.Scopes.{seen}
+use Rattle.formulas.specs.Tuples.{items}
 use Rattle.formulas.specs.Shapes.{instance-at}
 use Rattle.evaluator.specs.declared.Value.{Value}
 use Rattle.evaluator.specs.declared.Value.the-variants.{False}
@@ -20,7 +20,7 @@ use Rattle.evaluator.specs.declared.WordAt.{WordAt}
 use Rattle.evaluator.specs.Values.{valued}
 
 -- the formula at a place under q quantifiers: "parameter count k (0 to 4)", so at most 4 + q variables
-abbrev pub formula-there : ℕ → List ℕ → Scope → ℕ → ℕ → Parsed Formula
+abbrev pub formula-there : ℕ → List ℕ → Tuple → ℕ → ℕ → Parsed Formula
 formula-there n s scope q at = when (leb (scope .count) (4 + q)) (formula-at n s (scope .count) q at)
 
 abbrev pub no-value : ℕ → Valued
@@ -31,15 +31,15 @@ value-reply d none = no-value 0
 value-reply d (some f e) = record { ok = true; value = d f; next = e }
 
 -- r is the value of the formula at `at`, where σ gives the value of each instance's word
-pub record ValueReply (σ : ℕ → Value) (s : List ℕ) (at : ℕ) (scope : Scope) (q : ℕ) (r : Valued)
+pub record ValueReply (σ : ℕ → Value) (s : List ℕ) (at : ℕ) (scope : Tuple) (q : ℕ) (r : Valued)
     : Type 0 where
   pub on : r .ok ≡ true → at ≤ r .next
   pub replies : (n : ℕ) → length s ≤ n + at
-      → r ≡ value-reply (λ f. valued f σ (seen scope)) (formula-there n s scope q at)
+      → r ≡ value-reply (λ f. valued f σ (items scope)) (formula-there n s scope q at)
 
 -- the value of a whole body: that of the formula at its start; false where there is none
-unfoldable pub body-value : (ℕ → Value) → List ℕ → Scope → Value
-body-value σ s scope = valued (found (formula-there (length s) s scope 0 0)) σ (seen scope)
+unfoldable pub body-value : (ℕ → Value) → List ℕ → Tuple → Value
+body-value σ s scope = valued (found (formula-there (length s) s scope 0 0)) σ (items scope)
 
 -- the word of an instance, where the variables in reach have the values v
 abbrev pub instance-word : List ℕ → Formula → ℕ
@@ -57,7 +57,7 @@ word-reply v none = no-word
 word-reply v (some f e) = record { ok = true; word = instance-word v f; next = e }
 
 -- r is the word of the instance whose equation stands at `at`; past the end of the bytes there is none
-pub record WordReply (s : List ℕ) (at : ℕ) (scope : Scope) (r : WordAt) : Type 0 where
+pub record WordReply (s : List ℕ) (at : ℕ) (scope : Tuple) (r : WordAt) : Type 0 where
   pub on : r .ok ≡ true → at ≤ r .next
   pub replies : (n : ℕ) → length s ≤ n + at
-      → r ≡ word-reply (seen scope) (when (leb at (length s)) (instance-at n s (scope .count) at))
+      → r ≡ word-reply (items scope) (when (leb at (length s)) (instance-at n s (scope .count) at))

@@ -8,7 +8,7 @@ ghost use lib.ListN.{length};
 ghost use Rattle.meaning.specs.Formulas.{calculation, test-holds};
 ghost use Rattle.meaning.specs.Words.{word};
 ghost use Rattle.formulas.specs.Decode.{test-of};
-ghost use Rattle.formulas.specs.Scopes.{seen};
+ghost use Rattle.formulas.specs.Tuples.{items};
 ghost use Rattle.evaluator.specs.Values.{known, join-value, decides, index-of, assignment};
 ghost use Rattle.evaluator.specs.Replies.{no-value, ValueReply, no-word, WordReply, body-value};
 ghost use Rattle.evaluator.specs.Contract.{TermMeets, TermsMeet, CompareMeets};
@@ -16,14 +16,14 @@ ghost use Rattle.evaluator.specs.Contract.{InstanceMeets, FormulaMeets, 
 use basics::element;
 use basics::wide;
 use formulas::Kind;
-use formulas::Scope;
 use formulas::TermKind;
 use formulas::Test;
+use formulas::Tuple;
 use formulas::is_range;
+use formulas::item;
 use formulas::kind_of;
 use formulas::push;
 use formulas::term_kind_of;
-use formulas::variable;
 
 // The value of a formula or of an instance; Open where it is not known.
 pub enum Value {
@@ -56,7 +56,7 @@ struct TermValue {
 // Whether some terms in a row were read, their values, and the place after them.
 struct TermValues {
     ok: bool,
-    values: Scope,
+    values: Tuple,
     next: usize,
 }
 
@@ -138,7 +138,7 @@ fn no_term(at: usize) -> TermValue
     }
 }
 
-fn term(body: &[u8], at: usize, scope: Scope) -> TermValue
+fn term(body: &[u8], at: usize, scope: Tuple) -> TermValue
     ensures { λ r. ⌜ TermMeets (now (body .entry)) at scope (r .ok) (r .value) (r .next) ⌝ }
 {
     if body.len() <= at {
@@ -158,7 +158,7 @@ fn term(body: &[u8], at: usize, scope: Scope) -> TermValue
             let i = wide(x);
             TermValue {
                 ok: i < scope.count,
-                value: variable(scope, x),
+                value: item(scope, x),
                 next,
             }
         }
@@ -204,7 +204,7 @@ fn no_formula(at: usize) -> Valued
 }
 
 // The test of the two terms that stand from `at` on.
-fn compare(body: &[u8], at: usize, scope: Scope, t: Test) -> Valued
+fn compare(body: &[u8], at: usize, scope: Tuple, t: Test) -> Valued
     ensures { λ r. ⌜ CompareMeets t (now (body .entry)) at scope (r .ok) (r .value) (r .next) ⌝ }
 {
     let a = term(body, at, scope);
@@ -221,7 +221,7 @@ fn compare(body: &[u8], at: usize, scope: Scope, t: Test) -> Valued
 }
 
 // The values of n terms in a row, put after those in `got`.
-fn arguments(body: &[u8], at: usize, scope: Scope, n: u8, got: Scope) -> TermValues
+fn arguments(body: &[u8], at: usize, scope: Tuple, n: u8, got: Tuple) -> TermValues
     requires { ⌜ got .count + n ≤ 8 ⌝ }
     ensures { λ r. ⌜ TermsMeet (now (body .entry)) at scope n got (r .ok) (r .values) (r .next) ⌝ }
 {
@@ -244,13 +244,13 @@ fn arguments(body: &[u8], at: usize, scope: Scope, n: u8, got: Scope) -> TermVal
     arguments(body, m, scope, n - 1, push(got, a.value))
 }
 
-fn word(e: u8, values: Scope) -> u32
-    ensures { λ r. ⌜ r ≡ word (e ∷ seen values) ⌝ }
+fn word(e: u8, values: Tuple) -> u32
+    ensures { λ r. ⌜ r ≡ word (e ∷ items values) ⌝ }
 {
-    let p = wide(variable(values, 0));
-    let q = wide(variable(values, 1));
-    let r = wide(variable(values, 2));
-    let s = wide(variable(values, 3));
+    let p = wide(item(values, 0));
+    let q = wide(item(values, 1));
+    let r = wide(item(values, 2));
+    let s = wide(item(values, 3));
     let whole = wide(e) * 65536 + p * 4096 + q * 256 + r * 16 + s;
     whole as u32
 }
@@ -267,7 +267,7 @@ fn no_word() -> WordAt
 }
 
 // The word of the instance whose equation, number of arguments and arguments stand from `at` on.
-pub fn word_at(body: &[u8], at: usize, scope: Scope) -> WordAt
+pub fn word_at(body: &[u8], at: usize, scope: Tuple) -> WordAt
     ensures { λ r. ⌜ WordReply (now (body .entry)) at scope r ⌝ }
 {
     if body.len() < at {
@@ -278,7 +278,7 @@ pub fn word_at(body: &[u8], at: usize, scope: Scope) -> WordAt
     if 4 < n {
         return no_word();
     }
-    let none = Scope {
+    let none = Tuple {
         values: [0; 8],
         count: 0,
     };
@@ -324,7 +324,7 @@ fn value_of(table: &[u32], truth: &[u64; 8], w: u32) -> Value
 }
 
 // The value of the instance whose equation stands at `at`.
-fn instance(body: &[u8], at: usize, scope: Scope, table: &[u32], truth: &[u64; 8]) -> Valued
+fn instance(body: &[u8], at: usize, scope: Tuple, table: &[u32], truth: &[u64; 8]) -> Valued
     requires { ⌜ at ≤ length (now body) ⌝ }
     ensures { λ r. ⌜ InstanceMeets (assignment (now (table .entry)) (now (truth .entry))) (now (body .entry))
         at scope (r .ok) (r .value) (r .next) ⌝ }
@@ -341,7 +341,7 @@ fn instance(body: &[u8], at: usize, scope: Scope, table: &[u32], truth: &[u64; 8
 }
 
 // The value of the formula that stands at `at`, with q quantifiers around it.
-fn value_in(body: &[u8], at: usize, scope: Scope, q: u8, table: &[u32], truth: &[u64; 8]) -> Valued
+fn value_in(body: &[u8], at: usize, scope: Tuple, q: u8, table: &[u32], truth: &[u64; 8]) -> Valued
     requires { ⌜ scope .count ≤ 4 + q ⌝ }
     ensures { λ r. ⌜ FormulaMeets (assignment (now (table .entry)) (now (truth .entry))) (now (body .entry))
         at scope q (r .ok) (r .value) (r .next) ⌝ }
@@ -394,7 +394,7 @@ fn value_in(body: &[u8], at: usize, scope: Scope, q: u8, table: &[u32], truth: &
 fn fold(
     body: &[u8],
     at: usize,
-    scope: Scope,
+    scope: Tuple,
     q: u8,
     all: bool,
     v: u8,
@@ -432,7 +432,7 @@ fn fold(
 pub fn value_at(
     body: &[u8],
     at: usize,
-    scope: Scope,
+    scope: Tuple,
     q: u8,
     table: &[u32],
     truth: &[u64; 8],
@@ -448,7 +448,7 @@ pub fn value_at(
 }
 
 // The value of a body, which is one formula; false where it is none.
-pub fn evaluate(body: &[u8], scope: Scope, table: &[u32], truth: &[u64; 8]) -> Value
+pub fn evaluate(body: &[u8], scope: Tuple, table: &[u32], truth: &[u64; 8]) -> Value
     ensures { λ r. ⌜ r ≡ body-value (assignment (now (table .entry)) (now (truth .entry)))
         (now (body .entry)) scope ⌝ }
 {

@@ -12,14 +12,14 @@ use borrow.Author.Tests.{eqb-true, eqb-false, ltb-true, le-leb, lt-leb}
 use Rattle.meaning.specs.Logic.{_and_}
 use Rattle.meaning.specs.Formulas.{Term, Formula, instance}
 use Rattle.meaning.specs.Ranges.{is-range, term-range, arguments-fit, fits}
-use Rattle.formulas.specs.declared.Scope.{Scope}
+use Rattle.formulas.specs.declared.Tuple.{Tuple}
 use Rattle.formulas.specs.declared.Kind.{Kind}
 use Rattle.formulas.specs.declared.Kind.the-variants.{NoFormula, Constant, Join, Quantifier, Compare, Instance}
 use Rattle.formulas.specs.declared.Test.{Test}
 use Rattle.formulas.specs.Codes.{kind-of, operands-of}
 use Rattle.formulas.specs.Decode.{Parsed, none, some, then, in-row, term-at}
 use Rattle.formulas.specs.Shapes.{operands-constant, operands-instance}
-use Rattle.formulas.specs.Scopes.{seen}
+use Rattle.formulas.specs.Tuples.{items}
 use Rattle.formulas.specs.Contract.{part, signature-in, signatures-in}
 use Rattle.formulas.specs.Contract.{Told, refused, told, within, TermTold, ArgumentsTold, InstanceTold, FormulaTold}
 use Rattle.formulas.proofs.Told.{and-same, told-when, told-unless}
@@ -74,11 +74,11 @@ module _ (table : List ℕ) (x : ℕ) (ts : List Term) (rs : List ℕ) {c : ℕ}
       rw (known-length table, h, known-at table x (ltb-true x _ h)) (same-number (eqb c (getD table (5 * x + 4) 0)) refl)
   named-fits false h = rw (known-length table, h) refl
 
-pub instance-answer : {sigs : List (List ℕ)} {s : List ℕ} {scope : Scope} {at e e′ : ℕ} {ok ok′ v v′ : Bool}
+pub instance-answer : {sigs : List (List ℕ)} {s : List ℕ} {scope : Tuple} {at e e′ : ℕ} {ok ok′ v v′ : Bool}
     → (ok′ ≡ ok) × ((v′ ≡ v) × (e′ ≡ e)) → InstanceTold sigs s scope at ok v e → InstanceTold sigs s scope at ok′ v′ e′
 instance-answer r t = rw (r .0, r .1 .0, r .1 .1) t
 
-module _ {s : List ℕ} {scope : Scope} {at c : ℕ} (number : c ≡ getD s (at + 1) 0) where
+module _ {s : List ℕ} {scope : Tuple} {at c : ℕ} (number : c ≡ getD s (at + 1) 0) where
   pub instance-no : {sigs : List (List ℕ)} {v : Bool} → 4 < c → InstanceTold sigs s scope at false v at
   instance-no h = record { on = omega arith; tells = λ n _. told-unless _ _ (lt-leb _ 4 (rw number at h)) }
 
@@ -90,21 +90,21 @@ module _ {s : List ℕ} {scope : Scope} {at c : ℕ} (number : c ≡ getD s (at 
     on = omega (arith, a .on);
     tells = λ n h. rw (← i, ← number) (told-when _ (le-leb c 4 l)
         (told-all (instance x) (row-long (term-at n s (scope .count)) c (at + 2)) (a .tells n (omega arith))
-        (λ ts long w. w ∙ rw f (named-fits table x ts (seen scope) long (ltb x (getD table 40 0)) refl))));
+        (λ ts long w. w ∙ rw f (named-fits table x ts (items scope) long (ltb x (getD table 40 0)) refl))));
   }
 
 -- ---- formulas
-pub formula-answer : {sigs : List (List ℕ)} {s : List ℕ} {scope : Scope} {limit q at e e′ : ℕ} {ok ok′ v v′ : Bool}
+pub formula-answer : {sigs : List (List ℕ)} {s : List ℕ} {scope : Tuple} {limit q at e e′ : ℕ} {ok ok′ v v′ : Bool}
     → (ok′ ≡ ok) × ((v′ ≡ v) × (e′ ≡ e)) → FormulaTold sigs s limit scope q at ok v e
     → FormulaTold sigs s limit scope q at ok′ v′ e′
 formula-answer r t = rw (r .0, r .1 .0, r .1 .1) t
 
 -- what is told of a formula
-abbrev fit : List (List ℕ) → Scope → Formula → Bool
-fit sigs scope f = fits sigs f (seen scope)
+abbrev fit : List (List ℕ) → Tuple → Formula → Bool
+fit sigs scope f = fits sigs f (items scope)
 
 -- at the limit or past it
-pub formula-late : {sigs : List (List ℕ)} {s : List ℕ} {scope : Scope} {limit q at : ℕ} {v : Bool} → limit ≤ at
+pub formula-late : {sigs : List (List ℕ)} {s : List ℕ} {scope : Tuple} {limit q at : ℕ} {v : Bool} → limit ≤ at
     → FormulaTold sigs s limit scope q at false v at
 formula-late {sigs} {s} {scope} {limit} {q} {at} {v} h = record {
   on = omega arith;
@@ -112,7 +112,7 @@ formula-late {sigs} {s} {scope} {limit} {q} {at} {v} h = record {
 }
 
 -- a formula takes a byte at least
-pub formula-on : {sigs : List (List ℕ)} {s : List ℕ} {scope : Scope} {limit q at e : ℕ} {ok v : Bool}
+pub formula-on : {sigs : List (List ℕ)} {s : List ℕ} {scope : Tuple} {limit q at e : ℕ} {ok v : Bool}
     → FormulaTold sigs s limit scope q at ok v e → ok ≡ true → at < e
 formula-on {s} {scope} {q} {at} t z =
     within-on s (scope .count) q at (length s) (rw z at (t .tells (length s) (omega arith)))
@@ -128,7 +128,7 @@ pub instance-first : {s : List ℕ} {at next : ℕ} {kind : Kind} → Head s at 
 instance-first h k = omega (arith, h .ends, operands-instance _ (sym (h .named) ∙ k))
 
 module _ {s : List ℕ} {at next : ℕ} {kind : Kind} (h : Head s at next kind)
-    {sigs : List (List ℕ)} {scope : Scope} {limit q : ℕ} where
+    {sigs : List (List ℕ)} {scope : Tuple} {limit q : ℕ} where
   pub formula-none : {v : Bool} → kind ≡ NoFormula → FormulaTold sigs s limit scope q at false v at
   formula-none k = record {
     on = omega arith;
@@ -180,14 +180,14 @@ module _ {s : List ℕ} {at next : ℕ} {kind : Kind} (h : Head s at next kind)
             (sym (h .named) ∙ k) d (rw byte at i));
       }
 
-      pub formula-quantifier : {inner : Scope} {ok v : Bool} {e : ℕ} → is-range r ≡ true
-          → (inner .count ≡ scope .count + 1) × (seen inner ≡ seen scope ++ (r ∷ []))
+      pub formula-quantifier : {inner : Tuple} {ok v : Bool} {e : ℕ} → is-range r ≡ true
+          → (inner .count ≡ scope .count + 1) × (items inner ≡ items scope ++ (r ∷ []))
           → FormulaTold sigs s limit inner (q + 1) (at + 2) ok v e → FormulaTold sigs s limit scope q at ok v e
       unfolding fits
       formula-quantifier i p t = record {
         on = omega (arith, t .on);
         tells = λ n l. within-quantifier limit (fit sigs scope) s (scope .count) q at _ _ n l (h .inside)
-            (λ f. fits sigs f (seen scope ++ (r ∷ []))) all (sym (h .named) ∙ k) d (rw byte at i)
+            (λ f. fits sigs f (items scope ++ (r ∷ []))) all (sym (h .named) ∙ k) d (rw byte at i)
             (rw (p .1, p .0) at (t .tells)) (λ f w. w ∙ rw byte refl);
       }
 
@@ -197,7 +197,7 @@ module _ {s : List ℕ} {at next : ℕ} {kind : Kind} (h : Head s at next kind)
       on = omega (arith, first .on);
       tells = λ n l. within (told-compare (fit sigs scope) s (scope .count) q at _ m n l (h .inside) t
           (sym (h .named) ∙ k)
-          (λ i j. told-compared-stop (λ x. term-range x (seen scope)) (fit sigs scope) i t s (scope .count) (at + 1)
+          (λ i j. told-compared-stop (λ x. term-range x (items scope)) (fit sigs scope) i t s (scope .count) (at + 1)
           (rw z at (first .tells i j))));
     }
 
@@ -208,7 +208,7 @@ module _ {s : List ℕ} {at next : ℕ} {kind : Kind} (h : Head s at next kind)
       on = omega (arith, first .on, second .on);
       tells = λ n l. within (told-compare (fit sigs scope) s (scope .count) q at true _ n l (h .inside) t
           (sym (h .named) ∙ k)
-          (λ i j. told-compared (λ x. term-range x (seen scope)) (fit sigs scope) i t s (scope .count) (at + 1)
+          (λ i j. told-compared (λ x. term-range x (items scope)) (fit sigs scope) i t s (scope .count) (at + 1)
           (rw z at (first .tells i j)) (second .tells i (omega (arith, first .on))) (λ x y _ _. refl)));
     }
 

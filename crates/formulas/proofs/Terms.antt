@@ -11,29 +11,29 @@ use lib.ListN.{length, getD, List·getD-eq-default}
 use Rattle.meaning.specs.Logic.{_and_}
 use Rattle.meaning.specs.Formulas.{Term}
 use Rattle.meaning.specs.Ranges.{is-range, term-range, arguments-fit}
-use Rattle.formulas.specs.declared.Scope.{Scope}
+use Rattle.formulas.specs.declared.Tuple.{Tuple}
 use Rattle.formulas.specs.declared.TermKind.{TermKind}
 use Rattle.formulas.specs.declared.TermKind.the-variants.{NoTerm, Number, Variable, Calculation}
 use Rattle.formulas.specs.Codes.{term-kind-of, operands-of}
 use Rattle.formulas.specs.Decode.{in-row}
 use Rattle.formulas.specs.Shapes.{no-term-kind, operands-number, operands-variable}
-use Rattle.formulas.specs.Scopes.{seen}
+use Rattle.formulas.specs.Tuples.{items}
 use Rattle.formulas.specs.Contract.{part, told, TermTold, ArgumentsTold}
 use Rattle.formulas.proofs.Told.{told-then, told-stop, told-last}
 use Rattle.formulas.proofs.ByKind.{told-no-term, told-number-no, told-number, told-variable-no, told-variable}
 use Rattle.formulas.proofs.ByKind.{told-calculation-no, told-calculation-stop, told-calculation}
 
 -- an answer is told what its parts are told
-pub term-answer : {s : List ℕ} {scope : Scope} {at v v′ e e′ : ℕ} {ok ok′ : Bool}
+pub term-answer : {s : List ℕ} {scope : Tuple} {at v v′ e e′ : ℕ} {ok ok′ : Bool}
     → (ok′ ≡ ok) × ((v′ ≡ v) × (e′ ≡ e)) → TermTold s scope at ok v e → TermTold s scope at ok′ v′ e′
 term-answer r t = rw (r .0, r .1 .0, r .1 .1) t
 
 -- what is told of a term
-abbrev range : Scope → Term → ℕ
-range scope t = term-range t (seen scope)
+abbrev range : Tuple → Term → ℕ
+range scope t = term-range t (items scope)
 
 -- byte 0, which is what stands past the end, is no code
-pub term-past : {s : List ℕ} {scope : Scope} {at v : ℕ} → length s ≤ at → TermTold s scope at false v at
+pub term-past : {s : List ℕ} {scope : Tuple} {at v : ℕ} → length s ≤ at → TermTold s scope at false v at
 term-past {s} {scope} {at} {v} h = record {
   on = omega arith;
   tells = λ n _. told-no-term (range scope) s (scope .count) at v at n
@@ -47,7 +47,7 @@ pub record Head (s : List ℕ) (at x next : ℕ) (kind : TermKind) : Type 0 wher
   pub ends : next ≡ at + (1 + operands-of (getD s at 0))
   pub named : kind ≡ term-kind-of (getD s at 0)
 
-module _ {s : List ℕ} {at x next : ℕ} {kind : TermKind} (h : Head s at x next kind) {scope : Scope} where
+module _ {s : List ℕ} {at x next : ℕ} {kind : TermKind} (h : Head s at x next kind) {scope : Tuple} where
   pub term-none : {v : ℕ} → kind ≡ NoTerm → TermTold s scope at false v at
   term-none k = record {
     on = omega arith;
@@ -79,7 +79,7 @@ module _ {s : List ℕ} {at x next : ℕ} {kind : TermKind} (h : Head s at x nex
         (rw (h .byte) at b);
   }
 
-  pub term-variable : {v : ℕ} → kind ≡ Variable → x < scope .count → v ≡ getD (seen scope) x 0
+  pub term-variable : {v : ℕ} → kind ≡ Variable → x < scope .count → v ≡ getD (items scope) x 0
       → TermTold s scope at true v next
   unfolding term-range
   term-variable {v} k b r =
@@ -117,7 +117,7 @@ module _ {s : List ℕ} {at x next : ℕ} {kind : TermKind} (h : Head s at x nex
       }
 
 -- ---- terms in a row: c arguments for the parameters whose ranges stand from j on
-pub arguments-answer : {before : Bool} {ps s : List ℕ} {scope : Scope} {c at e e′ : ℕ} {ok ok′ v v′ : Bool}
+pub arguments-answer : {before : Bool} {ps s : List ℕ} {scope : Tuple} {c at e e′ : ℕ} {ok ok′ v v′ : Bool}
     → (ok′ ≡ ok) × ((v′ ≡ v) × (e′ ≡ e)) → ArgumentsTold before ps c s scope at ok v e
     → ArgumentsTold before ps c s scope at ok′ v′ e′
 arguments-answer r t = rw (r .0, r .1 .0, r .1 .1) t
@@ -135,7 +135,7 @@ next-fits true true r = refl
 next-fits true false r = refl
 next-fits false f r = refl
 
-module _ (before : Bool) (table : List ℕ) (j : ℕ) {c : ℕ} {s : List ℕ} {scope : Scope} {at : ℕ} where
+module _ (before : Bool) (table : List ℕ) (j : ℕ) {c : ℕ} {s : List ℕ} {scope : Tuple} {at : ℕ} where
   pub arguments-none : c ≡ 0 → ArgumentsTold before (part table j c) c s scope at true before at
   unfolding in-row part arguments-fit
   arguments-none h = record { on = omega arith; tells = λ n _. rw h (told (all-fit before)) }

@@ -8,14 +8,14 @@ use lib.Dec.{ltb}
 use lib.ListN.{length, getD}
 use Rattle.meaning.specs.Ranges.{term-range, arguments-fit, fits}
 use Rattle.formulas.specs.declared.Equation.{Equation}
-use Rattle.formulas.specs.declared.Scope.{Scope}
+use Rattle.formulas.specs.declared.Tuple.{Tuple}
 use Rattle.formulas.specs.declared.Kind.{Kind}
 use Rattle.formulas.specs.declared.Kind.the-variants.{NoFormula, Constant, Join, Quantifier, Compare}
 use Rattle.formulas.specs.declared.Kind.the-variants.{Instance}
 use Rattle.formulas.specs.declared.TermKind.{TermKind}
 use Rattle.formulas.specs.declared.TermKind.the-variants.{NoTerm, Number, Variable, Calculation}
 use Rattle.formulas.specs.declared.Test.the-variants.{Equal, Less, Unequal, NotLess}
-use Rattle.formulas.specs.Scopes.{seen}
+use Rattle.formulas.specs.Tuples.{items}
 use Rattle.formulas.specs.Decode.{Parsed, none, some, term-at, terms-at, formula-at}
 use Rattle.formulas.specs.Shapes.{instance-at}
 
@@ -61,24 +61,24 @@ pub data Told {A B : Type 0} (d : A → B) (v : B) (e : ℕ) : Parsed A → Bool
   told : {a : A} → v ≡ d a → Told d v e (some a e) true
 
 -- n is deep enough: as many as the bytes that are left
-pub record TermTold (s : List ℕ) (scope : Scope) (at : ℕ) (ok : Bool) (v e : ℕ) : Type 0 where
+pub record TermTold (s : List ℕ) (scope : Tuple) (at : ℕ) (ok : Bool) (v e : ℕ) : Type 0 where
   pub on : at ≤ e
   pub tells : (n : ℕ) → length s ≤ n + at
-      → Told (λ t. term-range t (seen scope)) v e (term-at n s (scope .count) at) ok
+      → Told (λ t. term-range t (items scope)) v e (term-at n s (scope .count) at) ok
 
 -- c terms, as arguments for the parameters with the ranges ps; `before`: whether all before them fits
-pub record ArgumentsTold (before : Bool) (ps : List ℕ) (c : ℕ) (s : List ℕ) (scope : Scope) (at : ℕ)
+pub record ArgumentsTold (before : Bool) (ps : List ℕ) (c : ℕ) (s : List ℕ) (scope : Tuple) (at : ℕ)
     (ok v : Bool) (e : ℕ) : Type 0 where
   pub on : at ≤ e
   pub tells : (n : ℕ) → length s ≤ n + at
-      → Told (λ ts. before && arguments-fit ts ps (seen scope)) v e (terms-at n c s (scope .count) at) ok
+      → Told (λ ts. before && arguments-fit ts ps (items scope)) v e (terms-at n c s (scope .count) at) ok
 
 -- the instance whose equation stands at `at`
-pub record InstanceTold (signatures : List (List ℕ)) (s : List ℕ) (scope : Scope) (at : ℕ) (ok v : Bool)
+pub record InstanceTold (signatures : List (List ℕ)) (s : List ℕ) (scope : Tuple) (at : ℕ) (ok v : Bool)
     (e : ℕ) : Type 0 where
   pub on : at ≤ e
   pub tells : (n : ℕ) → length s ≤ n + at
-      → Told (λ f. fits signatures f (seen scope)) v e (instance-at n s (scope .count) at) ok
+      → Told (λ f. fits signatures f (items scope)) v e (instance-at n s (scope .count) at) ok
 
 -- what is told where more must come after what is read: what ends past the limit may be refused. Where
 -- nothing must come, the limit is the end of all bytes, whose number is `size`, and nothing read is refused
@@ -87,9 +87,9 @@ pub data ToldWithin {A B : Type 0} (limit size : ℕ) (d : A → B) (v : B) (e :
   within : {p : Parsed A} {ok : Bool} → Told d v e p ok → ToldWithin limit size d v e p ok
   past : {a : A} {m : ℕ} → limit < size → limit < m → ToldWithin limit size d v e (some a m) false
 
-pub record FormulaTold (signatures : List (List ℕ)) (s : List ℕ) (limit : ℕ) (scope : Scope) (q at : ℕ)
+pub record FormulaTold (signatures : List (List ℕ)) (s : List ℕ) (limit : ℕ) (scope : Tuple) (q at : ℕ)
     (ok v : Bool) (e : ℕ) : Type 0 where
   pub on : at ≤ e
   pub tells : (n : ℕ) → length s ≤ n + at
-      → ToldWithin limit (length s) (λ f. fits signatures f (seen scope)) v e
+      → ToldWithin limit (length s) (λ f. fits signatures f (items scope)) v e
       (formula-at n s (scope .count) q at) ok

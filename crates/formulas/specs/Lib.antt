@@ -3,6 +3,6 @@ pub mod Decode
 pub mod Reads
 pub mod Shapes
 pub mod Bodies
-pub mod Scopes
+pub mod Tuples
 pub mod Contract
 pub mod OneReply

@@ -10,9 +10,9 @@ use Rattle.meaning.specs.Ranges.{is-range}
 use Rattle.formulas.specs.declared.Equation.{Equation}
 use Rattle.formulas.specs.declared.Kind.{Kind}
 use Rattle.formulas.specs.declared.TermKind.{TermKind}
-use Rattle.formulas.specs.declared.Scope.{Scope}
+use Rattle.formulas.specs.declared.Tuple.{Tuple}
 use Rattle.formulas.specs.Codes.{kind-of, term-kind-of, operands-of}
-use Rattle.formulas.specs.Scopes.{seen, pushed}
+use Rattle.formulas.specs.Tuples.{items, pushed}
 use Rattle.formulas.specs.Bodies.{is-body, is-fitting}
 
 pub one-kind-of : (code : ℕ) {r s : Kind} → r ≡ kind-of code → s ≡ kind-of code → r ≡ s
@@ -25,17 +25,17 @@ pub one-operands-of : (code : ℕ) {r s : ℕ} → r ≡ operands-of code → s 
 one-operands-of code = one-reply
 
 -- what `push` promises of its result; the second part is a consequence of the first, for its callers
-abbrev pub Pushes : Scope → ℕ → Scope → Type 0
-Pushes scope value r =
-    (r ≡ pushed scope value)
-    × (scope .count < 8 → (r .count ≡ scope .count + 1) × (seen r ≡ seen scope ++ (value ∷ [])))
+abbrev pub Pushes : Tuple → ℕ → Tuple → Type 0
+Pushes tuple value r =
+    (r ≡ pushed tuple value)
+    × (tuple .count < 8 → (r .count ≡ tuple .count + 1) × (items r ≡ items tuple ++ (value ∷ [])))
 
-pub one-push : (scope : Scope) (value : ℕ) {r s : Scope} → Pushes scope value r → Pushes scope value s → r ≡ s
-one-push scope value p q = one-reply (p .0) (q .0)
+pub one-push : (tuple : Tuple) (value : ℕ) {r s : Tuple} → Pushes tuple value r → Pushes tuple value s → r ≡ s
+one-push tuple value p q = one-reply (p .0) (q .0)
 
-pub one-variable : (scope : Scope) (i : ℕ) {r s : ℕ}
-    → r ≡ getD (seen scope) i 0 → s ≡ getD (seen scope) i 0 → r ≡ s
-one-variable scope i = one-reply
+pub one-item : (tuple : Tuple) (i : ℕ) {r s : ℕ}
+    → r ≡ getD (items tuple) i 0 → s ≡ getD (items tuple) i 0 → r ≡ s
+one-item tuple i = one-reply
 
 pub one-is-range : (r : ℕ) {b c : Bool} → b ≡ is-range r → c ≡ is-range r → b ≡ c
 one-is-range r = one-reply

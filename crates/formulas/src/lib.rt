@@ -7,7 +7,7 @@ ghost use Prim.Native.Nat.{_+_, _≤_, _<_};
 ghost use lib.ListN.{length, getD};
 ghost use Rattle.meaning.specs.Ranges.{is-range, fits};
 ghost use Rattle.formulas.specs.Codes.{kind-of, term-kind-of, operands-of};
-ghost use Rattle.formulas.specs.Scopes.{seen, pushed};
+ghost use Rattle.formulas.specs.Tuples.{items, pushed};
 ghost use Rattle.formulas.specs.Bodies.{ranges-of, signatures-of, body-at, is-body, is-fitting};
 ghost use Rattle.formulas.specs.Contract.{kind-numbered, term-kind-numbered};
 ghost use Rattle.formulas.specs.Contract.{part, signature-byte, signatures-in};
@@ -75,8 +75,9 @@ const KINDS: [u8; 20] = [
 // Of each code from 10 to 23 how many operands come after it.
 const OPERANDS: [u8; 20] = [0, 0, 2, 2, 2, 2, 2, 2, 2, 2, 2, 0, 0, 0, 0, 0, 1, 1, 3, 3];
 
-// The variables in reach: the first `count` of `values`.
-pub struct Scope {
+// At most eight bytes, the first `count` of `values`: values or ranges of the variables in reach, outermost
+// first, or arguments.
+pub struct Tuple {
     pub values: [u8; 8],
     pub count: usize,
 }
@@ -156,12 +157,12 @@ pub fn operands_of(code: u8) -> u8
     OPERANDS[i]
 }
 
-// One more variable in reach, after those that are there.
-pub fn push(scope: Scope, value: u8) -> Scope
-    ensures { λ r. ⌜ (r ≡ pushed scope value) ×
-        (scope .count < 8 → (r .count ≡ scope .count + 1) × (seen r ≡ seen scope ++ (value ∷ []))) ⌝ }
+// One more behind those that are there.
+pub fn push(tuple: Tuple, value: u8) -> Tuple
+    ensures { λ r. ⌜ (r ≡ pushed tuple value) ×
+        (tuple .count < 8 → (r .count ≡ tuple .count + 1) × (items r ≡ items tuple ++ (value ∷ []))) ⌝ }
 {
-    let mut s = scope;
+    let mut s = tuple;
     let n = s.count;
     if n < 8 {
         s.values[n] = value;
@@ -170,15 +171,15 @@ pub fn push(scope: Scope, value: u8) -> Scope
     s
 }
 
-// Variable i; 0 where it is not in reach.
-pub fn variable(scope: Scope, i: u8) -> u8
-    ensures { λ r. ⌜ r ≡ getD (seen scope) i 0 ⌝ }
+// Number i of them; 0 where there are not so many.
+pub fn item(tuple: Tuple, i: u8) -> u8
+    ensures { λ r. ⌜ r ≡ getD (items tuple) i 0 ⌝ }
 {
     let j = i as usize;
-    if scope.count <= j {
+    if tuple.count <= j {
         return 0;
     }
-    if j < 8 { scope.values[j] } else { 0 }
+    if j < 8 { tuple.values[j] } else { 0 }
 }
 
 pub fn is_range(r: u8) -> bool
@@ -200,7 +201,7 @@ fn result(ok: bool, fits: bool, next: usize) -> Span
 }
 
 // The term at `at` of a body.
-fn read_term(body: &[u8], at: usize, scope: Scope) -> TermSpan
+fn read_term(body: &[u8], at: usize, scope: Tuple) -> TermSpan
     requires { ⌜ length (now body) ≤ 256 ⌝ }
     ensures { λ r. ⌜ TermTold (now (body .entry)) scope at (r .ok) (r .range) (r .next) ⌝ }
 {
@@ -223,7 +224,7 @@ fn read_term(body: &[u8], at: usize, scope: Scope) -> TermSpan
             if scope.count <= basics::wide(x) {
                 return term_result(false, 0, at);
             }
-            term_result(true, variable(scope, x), next)
+            term_result(true, item(scope, x), next)
         }
         TermKind::Calculation(_) => {
             if !is_range(x) {
@@ -245,7 +246,7 @@ fn read_term(body: &[u8], at: usize, scope: Scope) -> TermSpan
 fn read_arguments(
     body: &[u8],
     at: usize,
-    scope: Scope,
+    scope: Tuple,
     c: u8,
     signatures: &[u8; 41],
     j: usize,
@@ -276,7 +277,7 @@ fn read_arguments(
 }
 
 // The instance whose equation and number of arguments stand at `at` and whose arguments start at `first`.
-fn read_instance(body: &[u8], at: usize, first: usize, scope: Scope, signatures: &[u8; 41]) -> Span
+fn read_instance(body: &[u8], at: usize, first: usize, scope: Tuple, signatures: &[u8; 41]) -> Span
     requires { ⌜ (length (now body) ≤ 256) × ((at ≤ length (now body)) × (first ≡ at + 2)) ⌝ }
     ensures { λ r. ⌜ InstanceTold (signatures-in (now (signatures .entry))) (now (body .entry)) scope at
         (r .ok) (r .fits) (r .next) ⌝ }
@@ -299,7 +300,7 @@ fn read_formula(
     body: &[u8],
     at: usize,
     limit: usize,
-    scope: Scope,
+    scope: Tuple,
     q: usize,
     signatures: &[u8; 41],
 ) -> Span
@@ -352,13 +353,13 @@ fn read_formula(
 }
 
 // The ranges of an equation's parameters.
-fn parameters_of(e: Equation) -> Scope
-    ensures { λ r. ⌜ (seen r ≡ ranges-of e) × ((r .count ≡ length (ranges-of e)) × (r .count ≤ 4)) ⌝ }
+fn parameters_of(e: Equation) -> Tuple
+    ensures { λ r. ⌜ (items r ≡ ranges-of e) × ((r .count ≡ length (ranges-of e)) × (r .count ≤ 4)) ⌝ }
 {
     let r = e.ranges;
     let values = [r[0], r[1], r[2], r[3], 0, 0, 0, 0];
     let count = basics::smaller(basics::wide(e.k), 4);
-    Scope { values, count }
+    Tuple { values, count }
 }
 
 // Of an equation's five bytes number i: its four ranges, then how many of them are parameters'.

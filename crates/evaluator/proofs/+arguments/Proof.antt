@@ -4,7 +4,7 @@ use borrow.Author.Needs.{needs}
 use borrow.Author.Tests.{not-true, not-false}
 use native.Mathlib.Omega.{arith}
 use mathlib.Core.Path.{_≡_, refl, sym, ap, _∙_}
-use Rattle.formulas.specs.Scopes.{seen}
+use Rattle.formulas.specs.Tuples.{items}
 use Rattle.evaluator.proofs.Meets as law
 use Prim.Native.Nat.{_-_}
 use Prim.Native.Nat.{ℕ, _<_}
@@ -41,7 +41,7 @@ arguments-calls t = (
 arguments-returns : (t : ℕ) → arguments-lts.Need-returns (arguments-calls t) (arguments-at t) arguments.Post
 arguments-returns t c =
     let a = c .before .before .args in
-    record { on = omega arith; tells = λ m _. law.terms-none m _ _ _ _ (a .n) (seen (a .got)) (c .if1 .taken) }
+    record { on = omega arith; tells = λ m _. law.terms-none m _ _ _ _ (a .n) (items (a .got)) (c .if1 .taken) }
 
 arguments-returns-2 : (t : ℕ) → arguments-lts.Need-returns-2 (arguments-calls t) (arguments-at t) arguments.Post
 arguments-returns-2 t c =
@@ -49,7 +49,7 @@ arguments-returns-2 t c =
     let x = c .before .before .term .ensures in
     record {
       on = omega arith;
-      tells = λ m l. law.terms-stop m _ _ _ _ (a .n) (a .n - 1) (seen (a .got)) (omega (arith, c .before .before .before .if1 .left))
+      tells = λ m l. law.terms-stop m _ _ _ _ (a .n) (a .n - 1) (items (a .got)) (omega (arith, c .before .before .before .if1 .left))
           (law.flagged (not-true _ (c .if2 .taken)) (x .tells m l));
     }
 
@@ -66,7 +66,7 @@ arguments-returns-3 t c =
     let r = c .arguments .ensures in
     record {
       on = omega (arith, x .on, r .on);
-      tells = λ m l. law.terms-more m _ _ _ _ (a .n) (a .n - 1) (seen (a .got)) (omega (arith, c .before .before .before .before .before .if1 .left))
+      tells = λ m l. law.terms-more m _ _ _ _ (a .n) (a .n - 1) (items (a .got)) (omega (arith, c .before .before .before .before .before .if1 .left))
           (law.flagged (not-false _ (c .before .before .if2 .left)) (x .tells m l)) (p .1) (r .tells m (omega (arith, x .on)));
     }
 

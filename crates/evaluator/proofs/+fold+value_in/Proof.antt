@@ -10,7 +10,7 @@ use mathlib.Core.List.{List}
 use lib.ListN.{length, getD, List·getD-eq-default}
 use Rattle.meaning.specs.Formulas.{Formula}
 use Rattle.formulas.specs.Codes.{kind-of}
-use Rattle.formulas.specs.Scopes.{seen}
+use Rattle.formulas.specs.Tuples.{items}
 use Rattle.formulas.specs.Shapes.{no-kind}
 use Rattle.formulas.proofs.ByKind as kind
 use Rattle.formulas.proofs.Told.{told-no}
@@ -104,7 +104,7 @@ module _ (t : ℕ) (c : fold-lts.Start (fold-calls t) (fold-at t) fold.Post) whe
   words = assignment (c .args .table .now) (c .args .truth .now)
 
   abbrev variables : List ℕ
-  variables = seen (c .args .scope)
+  variables = items (c .args .scope)
 
 half-of : (left : ℕ) → left / 2 ≤ left
 half-of left = omega arith
@@ -128,7 +128,7 @@ module _ (t : ℕ) (c : value-in-lts.After-kind-of (value-in-calls t) (value-in-
   here = start .args .at
 
   abbrev told-of : Formula → Value
-  told-of f = valued f (assignment (start .args .table .now) (start .args .truth .now)) (seen (start .args .scope))
+  told-of f = valued f (assignment (start .args .table .now) (start .args .truth .now)) (items (start .args .scope))
 
   named : kind-of (getD bytes here 0) ≡ c .kind-of .result
   named = ap kind-of (sym (c .before .element .ensures)) ∙ sym (c .kind-of .ensures)

@@ -8,7 +8,7 @@ use mathlib.Core.List.{List}
 use lib.ListN.{length, getD, List·getD-eq-default}
 use Rattle.meaning.specs.Formulas as meaning
 use Rattle.formulas.specs.Codes.{term-kind-of}
-use Rattle.formulas.specs.Scopes.{seen}
+use Rattle.formulas.specs.Tuples.{items}
 use Rattle.formulas.specs.Shapes.{no-term-kind}
 use Rattle.formulas.proofs.ByKind as kind
 use Rattle.evaluator.proofs.Meets as law
@@ -25,7 +25,7 @@ use Rattle.evaluator.proofs.calculate.Reads as calculate-reads
 use Rattle.evaluator.proofs.no_term.Reads as no-term-reads
 use Rattle.formulas.proofs.is_range.Reads as is-range-reads
 use Rattle.formulas.proofs.term_kind_of.Reads as term-kind-of-reads
-use Rattle.formulas.proofs.variable.Reads as variable-reads
+use Rattle.formulas.proofs.item.Reads as item-reads
 use Rattle.evaluator.proofs.+term.{statement}
 use Rattle.evaluator.proofs.+term.Tie.{close}
 
@@ -48,8 +48,8 @@ term-calls t = (
   term-kind-of-reads.Learnt,
   wide-reads.Asked,
   wide-reads.Learnt,
-  variable-reads.Asked,
-  variable-reads.Learnt,
+  item-reads.Asked,
+  item-reads.Learnt,
   is-range-reads.Asked,
   is-range-reads.Learnt,
   term-below t,
@@ -130,7 +130,7 @@ term-returns-6 t c =
     let k = named t h ∙ c .before .before .before .enum-told3 .given .1 in
     record {
       on = omega arith;
-      tells = λ n l. rw (c .before .before .wide .ensures .0) (law.variable-told _ _ _ _ n l (inside t h) k _ _ (operand t h) (c .variable .ensures));
+      tells = λ n l. rw (c .before .before .wide .ensures .0) (law.variable-told _ _ _ _ n l (inside t h) k _ _ (operand t h) (c .item .ensures));
     }
 
 term-returns-7 : (t : ℕ) → term-lts.Need-returns-7 (term-calls t) (term-at t) term.Post

@@ -7,7 +7,7 @@ use mathlib.Core.Path.{_≡_, refl, sym, ap, _∙_}
 use Rattle.evaluator.specs.declared.Valued.{Valued}
 use Rattle.evaluator.specs.Values.{known, valued}
 use Rattle.meaning.specs.Formulas as meaning
-use Rattle.formulas.specs.Scopes.{seen}
+use Rattle.formulas.specs.Tuples.{items}
 use Rattle.formulas.proofs.ByKind as kind
 use Rattle.evaluator.proofs.Meets as law
 use borrow.Author.Needs.{needs}
@@ -22,7 +22,7 @@ returns c =
     record {
       on = omega (arith, ap (λ (x : Valued). x .next) r);
       tells = λ σ n l. rw (ap (λ (x : Valued). x .ok) r) (kind.told-compared-stop
-          (λ u. meaning.value u (seen (a .scope))) (λ f. valued f σ (seen (a .scope))) n (a .t) (a .body .now) (a .scope .count) (a .at)
+          (λ u. meaning.value u (items (a .scope))) (λ f. valued f σ (items (a .scope))) n (a .t) (a .body .now) (a .scope .count) (a .at)
           (law.flagged (not-true _ (c .before .if1 .taken)) (p .tells n l)));
     }
 
@@ -35,7 +35,7 @@ returns-2 c =
     record {
       on = omega (arith, p .on, r .on);
       tells = λ σ n l. kind.told-compared
-          (λ u. meaning.value u (seen (a .scope))) (λ f. valued f σ (seen (a .scope))) n (a .t) (a .body .now) (a .scope .count) (a .at)
+          (λ u. meaning.value u (items (a .scope))) (λ f. valued f σ (items (a .scope))) n (a .t) (a .body .now) (a .scope .count) (a .at)
           (law.flagged (not-false _ (c .before .before .before .if1 .left)) (p .tells n l)) (r .tells n (omega (arith, p .on)))
           (λ _ _ y z. rw (← y, ← z) (c .known .ensures ∙ ap known (c .before .tested .ensures)));
     }

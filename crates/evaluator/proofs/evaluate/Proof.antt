@@ -6,7 +6,7 @@ use native.Mathlib.Omega.{arith}
 use Prim.Native.Nat.{ℕ, _+_, _≤_}
 use mathlib.Core.Path.{_≡_, refl, sym, ap, _∙_}
 use lib.ListN.{length}
-use Rattle.formulas.specs.Scopes.{seen}
+use Rattle.formulas.specs.Tuples.{items}
 use Rattle.evaluator.specs.Values.{assignment}
 use Rattle.evaluator.specs.Replies.{formula-there, body-value}
 use Rattle.evaluator.proofs.Meets as law
@@ -19,7 +19,7 @@ unfolding body-value
 returns c =
     let a = c .before .before .before .args in
     let n = length (a .body .now) in
-    law.reply-value (assignment (a .table .now) (a .truth .now)) (seen (a .scope)) _ (formula-there n (a .body .now) (a .scope) 0 0)
+    law.reply-value (assignment (a .table .now) (a .truth .now)) (items (a .scope)) _ (formula-there n (a .body .now) (a .scope) 0 0)
     (c .value-at .ensures .replies n (omega arith))
 
 pub evaluate-spec : {M : Type 1} → statement M

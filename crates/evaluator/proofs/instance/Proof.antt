@@ -6,7 +6,7 @@ use native.Mathlib.Omega.{arith}
 use Prim.Native.Nat.{ℕ, _+_, _≤_}
 use mathlib.Core.Path.{_≡_, refl, sym, ap, _∙_}
 use lib.ListN.{length}
-use Rattle.formulas.specs.Scopes.{seen}
+use Rattle.formulas.specs.Tuples.{items}
 use Rattle.evaluator.specs.declared.Valued.{Valued}
 use Rattle.formulas.specs.Contract.{Told}
 use Rattle.formulas.specs.Shapes.{instance-at}
@@ -19,11 +19,11 @@ use Rattle.evaluator.proofs.instance.Tie as tie
 
 -- what is told of the word of the instance that stands there
 word-there : (c : tie.After-word-at) (n : ℕ) → length (c .before .before .before .args .body .now) ≤ n + c .before .before .before .args .at
-    → Told (instance-word (seen (c .before .before .before .args .scope))) (c .word-at .result .word) (c .word-at .result .next)
+    → Told (instance-word (items (c .before .before .before .args .scope))) (c .word-at .result .word) (c .word-at .result .next)
     (instance-at n (c .before .before .before .args .body .now) (c .before .before .before .args .scope .count) (c .before .before .before .args .at)) (c .word-at .result .ok)
 word-there c n l =
     let a = c .before .before .before .args in
-    law.word-told-by (seen (a .scope)) _ _ (c .word-at .ensures .replies n l ∙ rw (le-leb (a .at) (length (a .body .now)) (omega arith)) refl)
+    law.word-told-by (items (a .scope)) _ _ (c .word-at .ensures .replies n l ∙ rw (le-leb (a .at) (length (a .body .now)) (omega arith)) refl)
 
 returns : tie.Need-returns
 returns c =

@@ -11,10 +11,10 @@ unfolding word
 returns c =
     rw (
       c .wide5 .ensures .0,
-      c .before .before .before .before .before .before .before .wide .ensures .0 ∙ c .before .before .before .before .before .before .before .before .variable .ensures,
-      c .before .before .before .before .before .wide2 .ensures .0 ∙ c .before .before .before .before .before .before .variable2 .ensures,
-      c .before .before .before .wide3 .ensures .0 ∙ c .before .before .before .before .variable3 .ensures,
-      c .before .wide4 .ensures .0 ∙ c .before .before .variable4 .ensures,
+      c .before .before .before .before .before .before .before .wide .ensures .0 ∙ c .before .before .before .before .before .before .before .before .item .ensures,
+      c .before .before .before .before .before .wide2 .ensures .0 ∙ c .before .before .before .before .before .before .item2 .ensures,
+      c .before .before .before .wide3 .ensures .0 ∙ c .before .before .before .before .item3 .ensures,
+      c .before .wide4 .ensures .0 ∙ c .before .before .item4 .ensures,
     ) refl
 
 pub word-spec : {M : Type 1} → statement M

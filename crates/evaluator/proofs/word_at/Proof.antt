@@ -10,7 +10,7 @@ use mathlib.Core.List.{_∷_}
 use Rattle.evaluator.specs.declared.WordAt.{WordAt}
 use lib.ListN.{length}
 use Rattle.meaning.specs.Words.{word}
-use Rattle.formulas.specs.Scopes.{seen}
+use Rattle.formulas.specs.Tuples.{items}
 use Rattle.evaluator.proofs.Meets as law
 use Rattle.evaluator.specs.Replies.{no-word}
 use borrow.Author.Needs.{needs}
@@ -31,7 +31,7 @@ returns-2 c =
     record {
       on = unread _ (c .no-word2 .ensures);
       replies = λ n l. c .no-word2 .ensures
-          ∙ law.word-many n (a .body .now) (a .scope .count) (a .at) (seen (a .scope)) (c .before .before .before .before .if1 .left) (rw b at (c .before .if2 .taken));
+          ∙ law.word-many n (a .body .now) (a .scope .count) (a .at) (items (a .scope)) (c .before .before .before .before .if1 .left) (rw b at (c .before .if2 .taken));
     }
 
 returns-3 : tie.Need-returns-3
@@ -42,7 +42,7 @@ returns-3 c =
     record {
       on = unread _ (c .no-word3 .ensures);
       replies = λ n l. c .no-word3 .ensures
-          ∙ law.word-lost n (a .body .now) (a .scope .count) (a .at) (seen (a .scope)) (c .before .before .before .before .before .before .before .if1 .left) (rw b at (c .before .before .before .before .if2 .left))
+          ∙ law.word-lost n (a .body .now) (a .scope .count) (a .at) (items (a .scope)) (c .before .before .before .before .before .before .before .if1 .left) (rw b at (c .before .before .before .before .if2 .left))
           (rw b at (law.flagged (not-true _ (c .before .if3 .taken)) (r .tells n (omega arith))));
     }
 
@@ -51,10 +51,10 @@ returns-4 c =
     let a = c .before .before .before .before .before .before .before .before .before .before .args in
     let b = c .before .before .before .before .before .before .element2 .ensures in
     let r = c .before .before .before .before .arguments in
-    let x = seen (r .result .values) in
+    let x = items (r .result .values) in
     record {
       on = λ _. omega (arith, r .ensures .on);
-      replies = λ n l. law.word-read n (a .body .now) (a .scope .count) (a .at) (seen (a .scope)) (c .before .before .before .before .before .before .before .before .if1 .left) (rw b at (c .before .before .before .before .before .if2 .left))
+      replies = λ n l. law.word-read n (a .body .now) (a .scope .count) (a .at) (items (a .scope)) (c .before .before .before .before .before .before .before .before .if1 .left) (rw b at (c .before .before .before .before .before .if2 .left))
           (rw b at (law.flagged (not-false _ (c .before .before .if3 .left)) (r .ensures .tells n (omega arith))))
           (c .word .ensures ∙ ap (λ (e : ℕ). word (e ∷ x)) (c .before .before .before .before .before .before .before .element .ensures));
     }

@@ -9,7 +9,7 @@ use mathlib.Core.List.{[], _∷_, _++_}
 use borrow.Author.Needs.{needs}
 use borrow.Author.Tests.{not-true, not-false}
 use Rattle.formulas.specs.Codes.{kind-of, operands-of}
-use Rattle.formulas.specs.Scopes.{seen}
+use Rattle.formulas.specs.Tuples.{items}
 use Rattle.formulas.proofs.Formulas as law
 use Rattle.formulas.proofs.+read_formula as cycle
 use Rattle.formulas.proofs.+read_formula.Lts-read_formula as formula
@@ -79,7 +79,7 @@ module _ (t : ℕ) where
   pushed : (c : formula.After-push (formula-calls t) (formula-at t) formula-post)
       → let scope = start (c .before .before .before .before .before .before .before) .args .scope in
       (c .push .result .count ≡ scope .count + 1) ×
-      (seen (c .push .result) ≡ seen scope ++ (c .before .before .before .element2 .result ∷ []))
+      (items (c .push .result) ≡ items scope ++ (c .before .before .before .element2 .result ∷ []))
   pushed c = c .push .ensures .1 (omega arith)
 
   a-quantifier : formula.Need-returns-9 (formula-calls t) (formula-at t) formula-post

@@ -63,7 +63,7 @@ module _ (t : ℕ) where
       let wide = c .before .before .before .before in
       law.term-answer (c .term-result6 .ensures)
       (law.term-variable (head (wide .before .before .before)) (wide .before .enum-told3 .given .1)
-      (rw (wide .wide2 .ensures .0) at (c .before .before .if3 .left)) (c .before .variable .ensures))
+      (rw (wide .wide2 .ensures .0) at (c .before .before .if3 .left)) (c .before .item .ensures))
 
   no-range : term.Need-returns-4 (term-calls t) (term-at t) term-post
   no-range c =

@@ -13,15 +13,15 @@ use Rattle.formulas.proofs.push.Tie as tie
 returns : tie.Need-returns
 returns c =
     let a = c .before .args in
-    let g : length (a .scope .values) ≡ 8 = search needs in (
-      rw (lt-ltb (a .scope .count) 8 (c .if1 .taken)) refl,
-      λ h. (refl, rw add-one (take-suc-set (a .scope .values) (a .scope .count) (a .value) (rw g (c .if1 .taken)))),
+    let g : length (a .tuple .values) ≡ 8 = search needs in (
+      rw (lt-ltb (a .tuple .count) 8 (c .if1 .taken)) refl,
+      λ h. (refl, rw add-one (take-suc-set (a .tuple .values) (a .tuple .count) (a .value) (rw g (c .if1 .taken)))),
     )
 
 returns-2 : tie.Need-returns-2
 returns-2 c =
     let a = c .before .args in
-    (rw (le-ltb (a .scope .count) 8 (c .if1 .left)) refl, λ h. absurd (omega arith))
+    (rw (le-ltb (a .tuple .count) 8 (c .if1 .left)) refl, λ h. absurd (omega arith))
 
 pub push-spec : {M : Type 1} → statement M
 push-spec = tie.close (tie.spec (λ c. search needs) (λ c. search needs) returns returns-2)

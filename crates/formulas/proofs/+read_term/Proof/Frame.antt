@@ -14,7 +14,7 @@ use Rattle.formulas.proofs.is_range.Reads as is-range-reads
 use Rattle.formulas.proofs.operands_of.Reads as operands-of-reads
 use Rattle.formulas.proofs.term_kind_of.Reads as term-kind-of-reads
 use Rattle.formulas.proofs.term_result.Reads as term-result-reads
-use Rattle.formulas.proofs.variable.Reads as variable-reads
+use Rattle.formulas.proofs.item.Reads as item-reads
 
 -- what is left of the body
 abbrev pub μ-term : Measures 1 of-term.ps ℕ
@@ -42,8 +42,8 @@ module _ (t : ℕ) where
     wide-reads.Learnt,
     term-kind-of-reads.Asked,
     term-kind-of-reads.Learnt,
-    variable-reads.Asked,
-    variable-reads.Learnt,
+    item-reads.Asked,
+    item-reads.Learnt,
     is-range-reads.Asked,
     is-range-reads.Learnt,
     term-below,

@@ -1,12 +1,12 @@
--- `formulas::variable` meets its contract.
+-- `formulas::item` meets its contract.
 -- Past the part that is taken `getD` gives its default.
 use borrow.Author.Needs.{needs}
 use native.Mathlib.Omega.{arith}
 use mathlib.Core.Path.{_≡_, sym, _∙_}
 use lib.ListN.{length, take, length-take, List·getD-eq-default}
 use lib.Seq.{getD-take}
-use Rattle.formulas.proofs.variable.Statement.{statement}
-use Rattle.formulas.proofs.variable.Tie as tie
+use Rattle.formulas.proofs.item.Statement.{statement}
+use Rattle.formulas.proofs.item.Tie as tie
 
 returns : tie.Need-returns
 returns c =
@@ -24,5 +24,5 @@ returns-3 c =
     let g : length (a .t1 .values) ≡ 8 = search needs in
     sym (getD-take (a .t1 .count) (a .t1 .values) (a .i) 0 (c .before .if1 .left) ∙ List·getD-eq-default (a .t1 .values) 0 (rw g (c .if2 .left)))
 
-pub variable-spec : {M : Type 1} → statement M
-variable-spec = tie.close (tie.spec returns (λ c. search needs) returns-2 returns-3)
+pub item-spec : {M : Type 1} → statement M
+item-spec = tie.close (tie.spec returns (λ c. search needs) returns-2 returns-3)
