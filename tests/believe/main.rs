@@ -11,7 +11,7 @@ const END: &str = "<!-- believed: end -->\n";
 /// Their public theorems are the headlines, and those of every specs/OneReply. Of a file in proofs/ it is
 /// those that the page names: the others serve the proofs of the code.
 const HEADLINES: &str = "answers/specs/Demand1 answers/specs/Demand2 answers/specs/Demand3
-    answers/specs/LineNumbers answers/specs/Samples checker/specs/Lent checker/specs/Promises
+    frames/specs/RoundTrip reading/proofs/LineNumbers answers/specs/Samples checker/specs/Lent checker/specs/Promises
     meaning/specs/Looser meaning/specs/Counterexamples printing/specs/Promise printing/proofs/Answered";
 const LIBRARIES: &str = "mathlib lib Prim borrow native";
 const LANGUAGE: &str = "( ) { } [ ] ; , : = | ↦ → × λ ⌜ ⌝ _ ⊥ Type Unit tt abbrev unfoldable pub data record

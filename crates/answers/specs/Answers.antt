@@ -8,17 +8,18 @@ use lib.ListN.{length, take, drop, replicate}
 use Rattle.meaning.specs.Models.{Model, meaning}
 use Rattle.meaning.specs.Reach.{Instance, reached}
 use Rattle.meaning.specs.Words.{word}
-use Rattle.reading.specs.Reading.{reading}
-use Rattle.reading.specs.Meant.{model-of, start-of}
+use Rattle.frames.specs.Frames.{frames}
+use Rattle.reading.specs.Models.{model-of, start-in}
+use Rattle.reading.specs.Reading.{text-refusal}
 use Rattle.truth.specs.Words.{truth-words, count-true}
 use Rattle.answers.specs.declared.Answer.{Answer}
 
 -- the model in a text, and its start
 abbrev pub the-model : List ℕ → Model
-the-model t = model-of t (reading t .model)
+the-model t = model-of (frames t .all)
 
 abbrev pub the-start : List ℕ → Instance
-the-start t = start-of (reading t .model)
+the-start t = start-in (frames t .all)
 
 -- the list: the reached instances in order of finding
 unfoldable pub list : List ℕ → List Instance
@@ -61,7 +62,10 @@ judged t room = cond (leb (length (list t)) room) (verdict t) (refusal 9 0)
 
 -- the answer for a text and a table of so many words: 1 to 8 as reading gives them, then 9, then the verdict
 unfoldable pub answer : List ℕ → ℕ → Answer
-answer t words-lent = cond (eqb (reading t .number) 0) (judged t (room-of words-lent)) (refusal (reading t .number) (reading t .line))
+answer t words-lent =
+    cond (eqb (text-refusal t .number) 0)
+    (judged t (room-of words-lent))
+    (refusal (text-refusal t .number) (text-refusal t .line))
 
 -- "On a verdict with n reached, the first n words are the list and the rest is untouched. Refusals 1 to 8 touch none.
 -- Refusal 9 leaves the first instances found, filling the room, the rest untouched."
@@ -70,7 +74,7 @@ kept-words t room = take room (map word (list t))
 
 unfoldable pub table-after : List ℕ → List ℕ → List ℕ
 table-after t table =
-    cond (eqb (reading t .number) 0)
+    cond (eqb (text-refusal t .number) 0)
     (kept-words t (room-of (length table)) ++ drop (length (kept-words t (room-of (length table)))) table)
     table
 

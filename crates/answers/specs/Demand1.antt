@@ -10,10 +10,10 @@ use lib.ListN.{length, take, drop, length-take, length-map}
 use lib.Seq.{length-front, length-take-le, take-all}
 use borrow.Author.Tests.{ltb-true, ltb-false, leb-true, leb-false, eqb-true, eqb-false, lt-ltb, le-ltb, le-leb, lt-leb, eq-eqb, ne-eqb}
 use Rattle.meaning.specs.Words.{word}
-use Rattle.reading.specs.Reading.{reading}
-use Rattle.reading.proofs.Bounds.{reading-bounded}
+use Rattle.reading.specs.Reading.{Refusal, text-refusal}
+use Rattle.reading.proofs.LineNumbers.{refusal-bounded}
 use Rattle.answers.specs.declared.Answer.{Answer}
-use Rattle.answers.specs.LineNumbers.{one-of-long-text, long-text-one, refusal-names-line}
+use Rattle.reading.proofs.LineNumbers.{one-of-long-text, long-text-one, refusal-names-line}
 use Rattle.answers.specs.Answers.{list, room-of, refusal, verdict, judged, answer, kept-words, table-after, checked, table-after-check}
 
 infix 10 _exactly-when_
@@ -25,11 +25,11 @@ pub data Reply (t : List ℕ) (records words : ℕ) : Answer → Type 0 where
   -- "Where the list has fewer than eight records the answer is 5, line 0, before any other refusal"
   short-list : records < 8 → Reply t records words (refusal 5 0)
   -- then 1 to 8, as reading gives them in their order
-  text-refused : 8 ≤ records → (reading t .number ≡ 0 → ⊥) → Reply t records words (refusal (reading t .number) (reading t .line))
+  text-refused : 8 ≤ records → (text-refusal t .number ≡ 0 → ⊥) → Reply t records words (refusal (text-refusal t .number) (text-refusal t .line))
   -- then 9: "more reached instances than room (line 0)"
-  too-many : 8 ≤ records → reading t .number ≡ 0 → room-of words < length (list t) → Reply t records words (refusal 9 0)
+  too-many : 8 ≤ records → text-refusal t .number ≡ 0 → room-of words < length (list t) → Reply t records words (refusal 9 0)
   -- else the verdict
-  judged-so : 8 ≤ records → reading t .number ≡ 0 → length (list t) ≤ room-of words → Reply t records words (verdict t)
+  judged-so : 8 ≤ records → text-refusal t .number ≡ 0 → length (list t) ≤ room-of words → Reply t records words (verdict t)
 
 module _ (t : List ℕ) (records words : ℕ) where
   -- every answer is one of these four and has its cause
@@ -37,18 +37,18 @@ module _ (t : List ℕ) (records words : ℕ) where
   unfolding checked answer judged
   every-answer = by-records (ltb records 8) refl
     where
-      by-room : (b : Bool) → leb (length (list t)) (room-of words) ≡ b → 8 ≤ records → reading t .number ≡ 0 → Reply t records words (cond b (verdict t) (refusal 9 0))
+      by-room : (b : Bool) → leb (length (list t)) (room-of words) ≡ b → 8 ≤ records → text-refusal t .number ≡ 0 → Reply t records words (cond b (verdict t) (refusal 9 0))
       by-room true e h r = judged-so h r (leb-true (length (list t)) (room-of words) e)
       by-room false e h r = too-many h r (leb-false (length (list t)) (room-of words) e)
 
-      by-text : (b : Bool) → eqb (reading t .number) 0 ≡ b → 8 ≤ records →
-          Reply t records words (cond b (judged t (room-of words)) (refusal (reading t .number) (reading t .line)))
-      by-text true e h = by-room (leb (length (list t)) (room-of words)) refl h (eqb-true (reading t .number) 0 e)
-      by-text false e h = text-refused h (eqb-false (reading t .number) 0 e)
+      by-text : (b : Bool) → eqb (text-refusal t .number) 0 ≡ b → 8 ≤ records →
+          Reply t records words (cond b (judged t (room-of words)) (refusal (text-refusal t .number) (text-refusal t .line)))
+      by-text true e h = by-room (leb (length (list t)) (room-of words)) refl h (eqb-true (text-refusal t .number) 0 e)
+      by-text false e h = text-refused h (eqb-false (text-refusal t .number) 0 e)
 
       by-records : (b : Bool) → ltb records 8 ≡ b → Reply t records words (cond b (refusal 5 0) (answer t words))
       by-records true e = short-list (ltb-true records 8 e)
-      by-records false e = by-text (eqb (reading t .number) 0) refl (ltb-false records 8 e)
+      by-records false e = by-text (eqb (text-refusal t .number) 0) refl (ltb-false records 8 e)
 
   -- the order: the short record list
   pub first-short-list : records < 8 → checked t records words ≡ refusal 5 0
@@ -61,48 +61,48 @@ module _ (t : List ℕ) (records words : ℕ) where
   records-enough h = rw (le-ltb records 8 h) refl
 
   -- then what reading refuses
-  pub then-text : 8 ≤ records → (reading t .number ≡ 0 → ⊥) → checked t records words ≡ refusal (reading t .number) (reading t .line)
+  pub then-text : 8 ≤ records → (text-refusal t .number ≡ 0 → ⊥) → checked t records words ≡ refusal (text-refusal t .number) (text-refusal t .line)
   unfolding answer
-  then-text h r = records-enough h ∙ rw (ne-eqb (reading t .number) 0 r) refl
+  then-text h r = records-enough h ∙ rw (ne-eqb (text-refusal t .number) 0 r) refl
 
   -- then more reached instances than room
-  pub then-room : 8 ≤ records → reading t .number ≡ 0 → room-of words < length (list t) → checked t records words ≡ refusal 9 0
+  pub then-room : 8 ≤ records → text-refusal t .number ≡ 0 → room-of words < length (list t) → checked t records words ≡ refusal 9 0
   unfolding answer judged
-  then-room h r l = records-enough h ∙ rw (eq-eqb (reading t .number) 0 r, lt-leb (length (list t)) (room-of words) l) refl
+  then-room h r l = records-enough h ∙ rw (eq-eqb (text-refusal t .number) 0 r, lt-leb (length (list t)) (room-of words) l) refl
 
   -- and where nothing is refused, the verdict
-  pub then-verdict : 8 ≤ records → reading t .number ≡ 0 → length (list t) ≤ room-of words → checked t records words ≡ verdict t
+  pub then-verdict : 8 ≤ records → text-refusal t .number ≡ 0 → length (list t) ≤ room-of words → checked t records words ≡ verdict t
   unfolding answer judged
-  then-verdict h r l = records-enough h ∙ rw (eq-eqb (reading t .number) 0 r, le-leb (length (list t)) (room-of words) l) refl
+  then-verdict h r l = records-enough h ∙ rw (eq-eqb (text-refusal t .number) 0 r, le-leb (length (list t)) (room-of words) l) refl
 
   -- a verdict is given exactly when there are records enough, the text is read, and the reached instances have room
-  pub verdict-given : (checked t records words .number ≡ 0) exactly-when ((8 ≤ records) × (reading t .number ≡ 0) × (length (list t) ≤ room-of words))
+  pub verdict-given : (checked t records words .number ≡ 0) exactly-when ((8 ≤ records) × (text-refusal t .number ≡ 0) × (length (list t) ≤ room-of words))
   unfolding verdict
   verdict-given = (from every-answer, λ p. ap (λ (a : Answer). a .number) (then-verdict (p .0) (p .1) (p .2)))
     where
-      from : {a : Answer} → Reply t records words a → a .number ≡ 0 → (8 ≤ records) × (reading t .number ≡ 0) × (length (list t) ≤ room-of words)
+      from : {a : Answer} → Reply t records words a → a .number ≡ 0 → (8 ≤ records) × (text-refusal t .number ≡ 0) × (length (list t) ≤ room-of words)
       from (short-list h) e = absurd (omega arith)
       from (text-refused h r) e = absurd (r e)
       from (too-many h r l) e = absurd (omega arith)
       from (judged-so h r l) e = (h, r, l)
 
   -- 9 exactly when there are records enough, the text is read, and the reached instances outnumber the room
-  pub nine-given : (checked t records words .number ≡ 9) exactly-when ((8 ≤ records) × (reading t .number ≡ 0) × (room-of words < length (list t)))
+  pub nine-given : (checked t records words .number ≡ 9) exactly-when ((8 ≤ records) × (text-refusal t .number ≡ 0) × (room-of words < length (list t)))
   unfolding verdict
   nine-given = (from every-answer, λ p. ap (λ (a : Answer). a .number) (then-room (p .0) (p .1) (p .2)))
     where
-      from : {a : Answer} → Reply t records words a → a .number ≡ 9 → (8 ≤ records) × (reading t .number ≡ 0) × (room-of words < length (list t))
+      from : {a : Answer} → Reply t records words a → a .number ≡ 9 → (8 ≤ records) × (text-refusal t .number ≡ 0) × (room-of words < length (list t))
       from (short-list h) e = absurd (omega arith)
-      from (text-refused h r) e = absurd (omega (arith, reading-bounded t .number))
+      from (text-refused h r) e = absurd (omega (arith, refusal-bounded t .0))
       from (too-many h r l) e = (h, r, l)
       from (judged-so h r l) e = absurd (omega arith)
 
   -- with records enough, each number from 1 to 8 exactly when reading gives it
-  pub text-number-given : 8 ≤ records → (n : ℕ) → 1 ≤ n → n ≤ 8 → (checked t records words .number ≡ n) exactly-when (reading t .number ≡ n)
+  pub text-number-given : 8 ≤ records → (n : ℕ) → 1 ≤ n → n ≤ 8 → (checked t records words .number ≡ n) exactly-when (text-refusal t .number ≡ n)
   unfolding verdict
   text-number-given h n l u = (from every-answer, λ e. ap (λ (a : Answer). a .number) (then-text h (λ z. omega arith)) ∙ e)
     where
-      from : {a : Answer} → Reply t records words a → a .number ≡ n → reading t .number ≡ n
+      from : {a : Answer} → Reply t records words a → a .number ≡ n → text-refusal t .number ≡ n
       from (short-list s) e = absurd (omega arith)
       from (text-refused s r) e = e
       from (too-many s r m) e = absurd (omega arith)
@@ -124,7 +124,7 @@ module _ (t : List ℕ) (records words : ℕ) where
   pub too-long-given : 8 ≤ records → (checked t records words .number ≡ 1) exactly-when (32768 < length t)
   too-long-given h =
       let p = text-number-given h 1 (omega arith) (omega arith) in
-      ((λ e. one-of-long-text t (p .0 e)), λ l. p .1 (long-text-one t l))
+      ((λ e. one-of-long-text t (p .0 e)), λ l. p .1 (ap (λ (r : Refusal). r .number) (long-text-one t l)))
 
   -- there is no other number
   pub number-at-most-9 : checked t records words .number ≤ 9
@@ -133,7 +133,7 @@ module _ (t : List ℕ) (records words : ℕ) where
     where
       of : {a : Answer} → Reply t records words a → a .number ≤ 9
       of (short-list h) = omega arith
-      of (text-refused h r) = omega (arith, reading-bounded t .number)
+      of (text-refused h r) = omega (arith, refusal-bounded t .0)
       of (too-many h r l) = omega arith
       of (judged-so h r l) = omega arith
 
@@ -144,7 +144,7 @@ module _ (t : List ℕ) (records words : ℕ) where
     where
       of : {a : Answer} → Reply t records words a → a .line ≤ 32769
       of (short-list h) = omega arith
-      of (text-refused h r) = reading-bounded t .line
+      of (text-refused h r) = refusal-bounded t .1
       of (too-many h r l) = omega arith
       of (judged-so h r l) = omega arith
 
@@ -179,9 +179,9 @@ module _ (t : List ℕ) (records : ℕ) (table : List ℕ) where
   number = checked t records (length table) .number
 
   -- what the kept words and the rest of the table are where a text is read
-  kept-table : 8 ≤ records → reading t .number ≡ 0 → table-after-check t records table ≡ kept-words t room ++ drop (length (kept-words t room)) table
+  kept-table : 8 ≤ records → text-refusal t .number ≡ 0 → table-after-check t records table ≡ kept-words t room ++ drop (length (kept-words t room)) table
   unfolding table-after-check table-after
-  kept-table h r = rw (le-ltb records 8 h, eq-eqb (reading t .number) 0 r) refl
+  kept-table h r = rw (le-ltb records 8 h, eq-eqb (text-refusal t .number) 0 r) refl
 
   -- "Refusals 1 to 8 touch none"; on the short list "nothing is touched"
   pub table-untouched : (number ≡ 0 → ⊥) → (number ≡ 9 → ⊥) → table-after-check t records table ≡ table
@@ -190,7 +190,7 @@ module _ (t : List ℕ) (records : ℕ) (table : List ℕ) where
     where
       of : {a : Answer} → Reply t records (length table) a → (a .number ≡ 0 → ⊥) → (a .number ≡ 9 → ⊥) → table-after-check t records table ≡ table
       of (short-list h) z n = rw (lt-ltb records 8 h) refl
-      of (text-refused h r) z n = rw (le-ltb records 8 h, ne-eqb (reading t .number) 0 r) refl
+      of (text-refused h r) z n = rw (le-ltb records 8 h, ne-eqb (text-refusal t .number) 0 r) refl
       of (too-many h r l) z n = absurd (n refl)
       of (judged-so h r l) z n = absurd (z refl)
 
@@ -222,4 +222,4 @@ module _ (t : List ℕ) (records : ℕ) (table : List ℕ) where
 
       by-records : (b : Bool) → length (cond b table (table-after t table)) ≡ length table
       by-records true = refl
-      by-records false = by-text (eqb (reading t .number) 0)
+      by-records false = by-text (eqb (text-refusal t .number) 0)

@@ -19,7 +19,7 @@ use Rattle.meaning.specs.Stages.{stage-start, stage-prefix}
 use Rattle.meaning.specs.Table.{narrow}
 use Rattle.meaning.specs.Solving.{table-value}
 use Rattle.meaning.specs.WordLaws.{word-injective}
-use Rattle.reading.specs.Reading.{reading}
+use Rattle.reading.specs.Reading.{text-refusal}
 use Rattle.reading.proofs.WellFormed.{reading-well-formed}
 use Rattle.truth.specs.Bits.{bit-of, count-below}
 use Rattle.truth.specs.Words.{count-true}
@@ -29,7 +29,7 @@ use Rattle.answers.specs.Answers.{the-model, the-start, list, truth-in, 
 use Rattle.answers.specs.Demand1.{_exactly-when_, verdict-given, then-verdict, records-enough}
 
 -- ---- the list, of a text that is not refused
-module _ (t : List ℕ) (r : reading t .number ≡ 0) where
+module _ (t : List ℕ) (r : text-refusal t .number ≡ 0) where
   well : Is (well-formed (the-model t) (the-start t))
   well = reading-well-formed t r
 
@@ -87,11 +87,11 @@ unfolding truth-in
 value-is-meaning t e x = refl
 
 module _ (t : List ℕ) (words : ℕ) (v : answer t words .number ≡ 0) where
-  given : (8 ≤ 8) × (reading t .number ≡ 0) × (length (list t) ≤ room-of words)
+  given : (8 ≤ 8) × (text-refusal t .number ≡ 0) × (length (list t) ≤ room-of words)
   given = verdict-given t 8 words .0 (ap (λ (a : Answer). a .number) (records-enough t 8 words (omega arith)) ∙ v)
 
   -- the text was read
-  pub verdict-read : reading t .number ≡ 0
+  pub verdict-read : text-refusal t .number ≡ 0
   verdict-read = given .1
 
   -- and the reached instances have room
@@ -104,6 +104,11 @@ module _ (t : List ℕ) (words : ℕ) (v : answer t words .number ≡ 0) where
   verdict-shown : (e : ℕ) (x : Args) → the-start t ≡ e ∷ x → answer t words .verdict ≡ bit (meaning (the-model t) e x)
   unfolding verdict truth-in
   verdict-shown e x s = ap (λ (a : Answer). a .verdict) answered ∙ ap (λ (i : Instance). bit (truth-in (the-model t) i)) s
+
+  -- the same with the start as it stands
+  pub start-exactly : (answer t words .verdict ≡ 1) exactly-when Is (truth-in (the-model t) (the-start t))
+  unfolding verdict
+  start-exactly = rw answered (bit-one (truth-in (the-model t) (the-start t)))
 
   -- "holds" exactly when the start is true in the meaning of the model
   pub holds-exactly : (e : ℕ) (x : Args) → the-start t ≡ e ∷ x → (answer t words .verdict ≡ 1) exactly-when Is (meaning (the-model t) e x)

@@ -11,14 +11,14 @@ use Rattle.meaning.specs.Logic.{Is→eq, eq→Is}
 use Rattle.meaning.specs.Reach.{Instance}
 use Rattle.meaning.specs.Words.{word}
 use Rattle.meaning.specs.Looser.{Looser, looser-holds}
-use Rattle.reading.specs.Reading.{reading}
+use Rattle.reading.specs.Reading.{text-refusal}
 use Rattle.reading.proofs.WellFormed.{reading-well-formed}
 use Rattle.truth.specs.Bits.{bit-of}
 use Rattle.answers.specs.declared.Answer.{Answer}
 use Rattle.answers.specs.Answers.{the-model, the-start, list, truth-in, room-of, refusal, verdict}
 use Rattle.answers.specs.Answers.{answer, kept-words, checked}
 use Rattle.answers.specs.Demand1.{_exactly-when_, Reply, short-list, text-refused, too-many, judged-so, every-answer, records-enough, then-verdict, nine-given}
-use Rattle.answers.specs.Demand2.{start-first, holds-exactly, verdict-read, verdict-room, bit-is-value}
+use Rattle.answers.specs.Demand2.{start-first, start-exactly, verdict-read, verdict-room, bit-is-value}
 
 -- an answer that holds is a verdict
 holding-is-verdict : (t : List ℕ) (words : ℕ) → answer t words .verdict ≡ 1 → answer t words .number ≡ 0
@@ -54,11 +54,10 @@ module _ (t t′ : List ℕ) (words words′ : ℕ) (l : Looser (the-model t) (t
   -- what holds for a text holds for one with a looser model and the same start, where that has a verdict
   pub looser-text-holds : the-start t ≡ the-start t′ →
       answer t words .verdict ≡ 1 → answer t′ words′ .number ≡ 0 → answer t′ words′ .verdict ≡ 1
-  unfolding truth-in
   looser-text-holds s h v′ =
       let v = holding-is-verdict t words h in
-      let held = meaning-kept v (the-start t) (Is→eq (holds-exactly t words v _ _ refl .0 h)) in
-      holds-exactly t′ words′ v′ _ _ (sym s) .1 (eq→Is held)
+      let held = meaning-kept v (the-start t) (Is→eq (start-exactly t words v .0 h)) in
+      start-exactly t′ words′ v′ .1 (eq→Is (rw s at held))
 
 module _ (t : List ℕ) (words more : ℕ) (l : words ≤ more) (v : answer t words .number ≡ 0) where
   -- with more room the answer is the same: verdict, counts and truth
@@ -76,11 +75,11 @@ module _ (t : List ℕ) (words more : ℕ) (l : words ≤ more) (v : answer t wo
       all n h = take-all (room-of n) (map word (list t)) (omega (arith, length-map (list t) word))
 
 -- where no earlier refusal is due, 9 is given exactly when the reached instances outnumber the room
-pub nine-by-room : (t : List ℕ) (words : ℕ) → reading t .number ≡ 0 → (answer t words .number ≡ 9) exactly-when (room-of words < length (list t))
+pub nine-by-room : (t : List ℕ) (words : ℕ) → text-refusal t .number ≡ 0 → (answer t words .number ≡ 9) exactly-when (room-of words < length (list t))
 nine-by-room t words r =
     let e : checked t 8 words .number ≡ answer t words .number = ap (λ (a : Answer). a .number) (records-enough t 8 words (omega arith)) in
     ((λ n. nine-given t 8 words .0 (e ∙ n) .2), λ h. sym e ∙ nine-given t 8 words .1 (omega arith, r, h))
 
 -- "Room 0 with any readable model: 9"
-pub no-room-nine : (t : List ℕ) → reading t .number ≡ 0 → answer t 0 .number ≡ 9
+pub no-room-nine : (t : List ℕ) → text-refusal t .number ≡ 0 → answer t 0 .number ≡ 9
 no-room-nine t r = nine-by-room t 0 r .1 (omega (arith, ap length (start-first t r .1)))

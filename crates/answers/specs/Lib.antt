@@ -8,5 +8,5 @@ pub mod Demand3
 pub mod OneReply
 -- the definitions tried on the sample models
 pub mod Samples
+
 -- the lines of refusals
-pub mod LineNumbers

@@ -5,8 +5,12 @@ use mathlib.Core.Path.{_≡_}
 use mathlib.Core.List.{List}
 use Rattle.meaning.specs.OneReply.{one-reply}
 use Rattle.answers.specs.declared.Answer.{Answer}
-use Rattle.answers.specs.Answers.{answer, table-after, checked, table-after-check}
+use Rattle.answers.specs.Answers.{refusal, answer, table-after, checked, table-after-check}
 use Rattle.answers.specs.Printed.{printed, bytes-written, buffer-after}
+
+-- the refusal
+pub one-refusal : (number line : ℕ) {a b : Answer} → a ≡ refusal number line → b ≡ refusal number line → a ≡ b
+one-refusal number line = one-reply
 
 module _ (t : List ℕ) where
   -- the answer, where records are lent and where none are

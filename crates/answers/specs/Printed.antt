@@ -5,20 +5,11 @@ use mathlib.Core.Bool.{true, cond}
 use mathlib.Core.List.{List, [], _∷_, _++_}
 use lib.Dec.{eqb, leb}
 use lib.ListN.{length, take, drop}
-use Rattle.digits.specs.Digits.{digits-of}
+use Rattle.frames.specs.Frames.{line-of}
 use Rattle.meaning.specs.Models.{Model}
 use Rattle.meaning.specs.Reach.{Instance}
 use Rattle.answers.specs.declared.Answer.{Answer}
 use Rattle.answers.specs.Answers.{answer, list, truth-in, the-model, bit}
-
--- two digits a byte
-unfoldable pub characters : List ℕ → List ℕ
-characters [] = []
-characters (b ∷ bs) = digits-of b ++ characters bs
-
--- a frame as a line: "every line ends with byte 0a"
-unfoldable pub line-of : List ℕ → List ℕ
-line-of frame = characters frame ++ (0x0a ∷ [])
 
 -- "two bytes each, high byte first"
 abbrev pub two-bytes : ℕ → List ℕ

@@ -10,22 +10,24 @@ use Rattle.meaning.specs.Logic.{_and_, _or_, _⇒_, join, over}
 use Rattle.meaning.specs.Solution.{same, mem, all, every, some, least, greatest, solution}
 use Rattle.meaning.specs.Formulas.{sum, difference, value, holds}
 use Rattle.meaning.specs.Models.{spread, in-range, system, meaning}
-use Rattle.meaning.specs.Reach.{join-simplified, simplified, instances, body-of, next, fresh, explore, every-instance, reached}
+use Rattle.meaning.specs.Simplification.{join-simplified, simplified}
+use Rattle.meaning.specs.Reach.{leaves, instances, body-of, next, fresh, explore, every-instance, reached}
 use Rattle.meaning.specs.Ranges.{all-ranges, term-range, arguments-fit, fits, within, typed}
 use Rattle.meaning.specs.Words.{word}
-use Rattle.digits.specs.Digits.{byte-at, bytes-at}
+use Rattle.digits.specs.Digits.{bytes-of, characters}
 use Rattle.formulas.specs.Codes.{row-of}
 use Rattle.formulas.specs.Decode.{in-row, term-of-kind, term-at, formula-of-kind, formula-at}
 use Rattle.formulas.specs.Bodies.{body-at, is-body, is-fitting}
-use Rattle.reading.specs.Lines.{lines-of, all-digits}
-use Rattle.reading.specs.Frames.{equation-record, head-right, start-record}
-use Rattle.reading.specs.Meant.{model-of}
-use Rattle.reading.specs.Models.{with-equation, with-start, start-right}
-use Rattle.reading.specs.Reading.{read-equation, read-start, read-frame, read-line, start-judged, instances-judged, finished, read-lines, reading}
+use Rattle.frames.specs.Lines.{lines-of, all-digits, line-refusal}
+use Rattle.frames.specs.Frames.{frames-from, frames, line-of}
+use Rattle.reading.specs.Equations.{is-valid-head}
+use Rattle.reading.specs.Models.{frames-with, model-of}
+use Rattle.reading.specs.Reading.{equation-refusal, start-refusal, frame-refusal, instances-judged, start-judged, finished}
+use Rattle.reading.specs.Reading.{frames-judged, text-refusal}
 use Rattle.truth.specs.Words.{from-digits, words, count-true}
 use Rattle.answers.specs.declared.Answer.{Answer}
 use Rattle.answers.specs.Answers.{list, truth-in, shown-values, refusal, verdict, judged, answer, table-after, checked, table-after-check}
-use Rattle.answers.specs.Printed.{characters, line-of, instance-lines, printed}
+use Rattle.answers.specs.Printed.{instance-lines, printed}
 
 -- the bytes of a quoted text: n of them from place p on; all of them
 unfoldable pub bytes-from : String → ℕ → ℕ → List ℕ
@@ -123,11 +125,11 @@ expected s = (bytes (s .output), map promised (s .lendings))
 -- every sample marked P has the output, the answer and the table that document 01 gives
 pub samples-computed : map outcome samples ≡ map expected samples
 unfolding bytes-from bytes _and_ _or_ _⇒_ join over same mem all every some least greatest solution sum
-    difference value holds spread in-range system meaning join-simplified simplified instances body-of next
-    fresh explore every-instance reached all-ranges term-range arguments-fit fits within typed word byte-at
-    bytes-at row-of in-row term-of-kind term-at formula-of-kind formula-at body-at is-body is-fitting lines-of
-    all-digits equation-record head-right start-record model-of with-equation with-start start-right
-    read-equation read-start read-frame read-line start-judged instances-judged finished read-lines reading
-    from-digits words count-true list truth-in shown-values verdict judged answer table-after checked
-    table-after-check characters line-of instance-lines printed
+    difference value holds spread in-range system meaning join-simplified simplified leaves instances
+    body-of next fresh explore every-instance reached all-ranges term-range arguments-fit fits within typed
+    word bytes-of row-of in-row term-of-kind term-at formula-of-kind formula-at body-at is-body is-fitting
+    lines-of all-digits line-refusal frames-from frames is-valid-head frames-with model-of equation-refusal
+    start-refusal frame-refusal instances-judged start-judged finished frames-judged text-refusal from-digits
+    words count-true list truth-in shown-values verdict judged answer table-after checked table-after-check
+    characters line-of instance-lines printed
 samples-computed = refl

@@ -1,31 +1,23 @@
--- Facts of `laid`'s form, take n es ++ drop n ys.
--- They hold for lists of anything, by the library's laws on lists.
+-- A list that is overwritten from its first place on: with one more, in its length, and whole.
+-- They hold for lists of anything, by the library's laws of a copy (`paste`) to place 0.
 use mathlib.Core.Path.{_≡_, refl, ap}
-use Prim.Native.Nat.{ℕ, zero, suc, _<_, _≤_}
-use native.Mathlib.Nat.{not-suc-le-zero, le-of-suc-le-suc}
+use Prim.Native.Nat.{ℕ, zero, suc, _+_, _<_, _≤_}
+use native.Mathlib.{Nat.zero-add, Numerals.add-one, Omega.arith}
 use mathlib.Core.List.{List, [], _∷_, _++_, map, append-nil}
 use lib.ListN.{length, getD, set, take, drop}
-use lib.Seq.{take-all, drop-length}
-use native.Mathlib.Omega.{arith}
+use lib.Seq.{take-all, drop-length, paste-suc, length-paste}
 
 module _ {A : Type 0} where
-  -- one more is laid
-  pub laid-more : (i : ℕ) (es ys : List A) (d : A) → i < length es → i < length ys → set (take i es ++ drop i ys) i (getD es i d) ≡ take (suc i) es ++ drop (suc i) ys
-  laid-more i [] ys d l m = absurd (not-suc-le-zero l)
-  laid-more i (e ∷ es) [] d l m = absurd (not-suc-le-zero m)
-  laid-more zero (e ∷ es) (y ∷ ys) d l m = refl
-  laid-more (suc i) (e ∷ es) (y ∷ ys) d l m = ap {B = List A} (λ r. e ∷ r) (laid-more i es ys d (le-of-suc-le-suc l) (le-of-suc-le-suc m))
+  pub overwritten-more : (i : ℕ) (es ys : List A) (d : A) → i < length es → i < length ys
+      → set (take i es ++ drop i ys) i (getD es i d) ≡ take (i + 1) es ++ drop (i + 1) ys
+  overwritten-more i es ys d l m = rw add-one (simp zero-add at (paste-suc ys 0 es i d (omega (arith, m)) l))
 
-  -- the count stays
-  pub laid-long : (i : ℕ) (es ys : List A) → i ≤ length es → i ≤ length ys → length (take i es ++ drop i ys) ≡ length ys
-  laid-long zero es ys l m = refl
-  laid-long (suc i) [] ys l m = absurd (not-suc-le-zero l)
-  laid-long (suc i) (e ∷ es) [] l m = absurd (not-suc-le-zero m)
-  laid-long (suc i) (e ∷ es) (y ∷ ys) l m = ap suc (laid-long i es ys (le-of-suc-le-suc l) (le-of-suc-le-suc m))
+  pub overwritten-long : (i : ℕ) (es ys : List A) → i ≤ length es → i ≤ length ys
+      → length (take i es ++ drop i ys) ≡ length ys
+  overwritten-long i es ys l m = simp zero-add at (length-paste ys 0 es i (omega (arith, m)) l)
 
-  -- all are laid
-  pub laid-all : (n : ℕ) (es ys : List A) → length es ≡ n → length ys ≡ n → take n es ++ drop n ys ≡ es
-  laid-all n es ys l m = rw (← m, drop-length, append-nil) (take-all (length ys) es (omega arith))
+  pub overwritten-all : (n : ℕ) (es ys : List A) → length es ≡ n → length ys ≡ n → take n es ++ drop n ys ≡ es
+  overwritten-all n es ys l m = rw (← m, drop-length, append-nil) (take-all (length ys) es (omega arith))
 
   pub map-take : {B : Type 0} (f : A → B) (n : ℕ) (l : List A) → map f (take n l) ≡ take n (map f l)
   map-take f zero l = refl

@@ -9,8 +9,9 @@ use lib.Dec.{eqb, ltb}
 use lib.ListN.{length, take, drop, length-append, length-drop, length-map}
 use lib.Seq.{length-take-le}
 use borrow.Author.Tests.{eqb-true, eqb-false, ltb-false}
-use Rattle.reading.specs.Reading.{reading}
-use Rattle.reading.proofs.Sound.{sound}
+use Rattle.reading.specs.Records.{reading}
+use Rattle.reading.proofs.Finishing.{few, eight-equations}
+use Rattle.reading.proofs.WellFormed.{reading-drafted}
 use Rattle.answers.specs.Answers.{checked}
 use Rattle.answers.specs.Demand1.{verdict-given}
 use Rattle.checker.specs.declared.Record.{Record}
@@ -34,7 +35,7 @@ unfolding records-of
 records-counted t =
     length-map (take (reading t .model .count) (reading t .model .equations)) record-of
     ∙ length-take-le (reading t .model .count) (reading t .model .equations)
-    (omega (arith, sound t .few, sound t .eight))
+    (omega (arith, few (reading-drafted t), eight-equations (reading-drafted t)))
 
 module _ (t : List ℕ) (records : List Record) where
   lent-after : (number : ℕ) → (number ≡ 0 → 8 ≤ length records) →
@@ -56,7 +57,7 @@ module _ (t : List ℕ) (records : List Record) where
                   arith,
                   records-counted t,
                   length-drop (reading t .model .count) records,
-                  sound t .few,
+                  few (reading-drafted t),
                   enough zero,
                 );
           }

@@ -7,7 +7,7 @@ use lib.Dec.{eqb, ltb}
 use lib.ListN.{length, take, drop}
 use Rattle.formulas.specs.declared.Equation.{Equation}
 use Rattle.reading.specs.declared.Model.{Model}
-use Rattle.reading.specs.Reading.{reading}
+use Rattle.reading.specs.Records.{reading}
 use Rattle.answers.specs.Answers.{checked}
 use Rattle.checker.specs.declared.Record.{Record}
 use Rattle.checker.specs.declared.ReadAnswer.{ReadAnswer}

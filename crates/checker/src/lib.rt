@@ -7,7 +7,8 @@ ghost use Rattle.answers.specs.Answers.{refusal};
 ghost use Rattle.checker.specs.Records.{record-of};
 ghost use Rattle.checker.specs.Promises.{Read, Checked};
 ghost use Rattle.printing.specs.Promise.{Written};
-ghost use Rattle.checker.specs.Prepared.{blank, laid, prepared, read-from, ReadPrepared, CheckPrepared};
+ghost use Rattle.checker.specs.Prepared.{blank, overwritten, prepared, read-from};
+ghost use Rattle.checker.specs.Prepared.{ReadPrepared, CheckPrepared};
 use answers::Answer;
 use formulas::Equation;
 use reading::Model;
@@ -40,8 +41,8 @@ pub fn read(text: &[u8], records: &mut [Record]) -> ReadAnswer
     ensures { λ r. ⌜ Read (now (text .entry)) (now (records .entry)) r (now (records .exit)) ⌝ }
 {
     let p = prepare_read(text, records.len());
-    fill(records, p.records, p.count);
-    tell_read(p)
+    fill(records, p);
+    read_answer_of(p)
 }
 
 // Checks a text: fills the lent records, writes the reached instances into the lent table and answers.
@@ -50,8 +51,8 @@ pub fn check(text: &[u8], records: &mut [Record], table: &mut [u32]) -> Answer
         (now (records .exit)) (now (table .exit)) ⌝ }
 {
     let p = prepare_check(text, records.len(), table);
-    fill(records, p.records, p.count);
-    tell(p)
+    fill(records, p);
+    answer_of(p)
 }
 
 // For the image builder, in C: writes what the checking program prints for a text into the lent buffer and
@@ -64,32 +65,33 @@ pub extern "C" fn devashtor_check(text: &[u8], out: &mut [u8]) -> usize
     printing::print_answer(text, out)
 }
 
-// Writes the first `count` of eight records: the one place where lent records are written.
-fn fill(records: &mut [Record], new: [Record; 8], count: usize)
-    requires { ⌜ (count ≤ 8) × (count ≤ length (now records)) ⌝ }
-    ensures { λ _. ⌜ now (records .exit) ≡ laid count new (now (records .entry)) ⌝ }
+// Writes the records that are prepared: the one place where lent records are written.
+fn fill(records: &mut [Record], p: Prepared)
+    requires { ⌜ (p .count ≤ 8) × (p .count ≤ length (now records)) ⌝ }
+    ensures { λ _. ⌜ now (records .exit) ≡ overwritten (p .count) (p .records) (now (records .entry)) ⌝ }
 {
     let mut i: usize = 0;
-    while i < count {
-        records[i] = nth(new, i);
+    while i < p.count {
+        records[i] = nth_record(p, i);
         i = i + 1;
     }
 }
 
-fn nth(records: [Record; 8], i: usize) -> Record
+fn nth_record(p: Prepared, i: usize) -> Record
     requires { ⌜ i < 8 ⌝ }
-    ensures { λ r. ⌜ r ≡ getD records i blank ⌝ }
+    ensures { λ r. ⌜ r ≡ getD (p .records) i blank ⌝ }
 {
+    let records = p.records;
     records[i]
 }
 
-fn tell(p: Prepared) -> Answer
+fn answer_of(p: Prepared) -> Answer
     ensures { λ r. ⌜ r ≡ p .answer ⌝ }
 {
     p.answer
 }
 
-fn tell_read(p: Prepared) -> ReadAnswer
+fn read_answer_of(p: Prepared) -> ReadAnswer
     ensures { λ r. ⌜ r ≡ read-from (p .answer) ⌝ }
 {
     let a = p.answer;
@@ -107,7 +109,7 @@ fn prepare_read(text: &[u8], room: usize) -> Prepared
         return refuse_short_list();
     }
     let r = reading::read_model(text);
-    prepare(refuse(r.number, r.line), r.model)
+    prepare(answers::refuse(r.number, r.line), r.model)
 }
 
 // Judges the length of the lent list first, then examines the text; the table is touched only there.
@@ -142,24 +144,11 @@ fn refuse_short_list() -> Prepared
     ensures { λ r. ⌜ (r .answer ≡ refusal 5 0) × (r .count ≡ 0) ⌝ }
 {
     let none = no_record();
-    let answer = refuse(5, 0);
+    let answer = answers::refuse(5, 0);
     Prepared {
         answer,
         count: 0,
         records: [none; 8],
-    }
-}
-
-fn refuse(number: u8, line: usize) -> Answer
-    ensures { λ r. ⌜ r ≡ refusal number line ⌝ }
-{
-    Answer {
-        number,
-        line,
-        verdict: 0,
-        reached: 0,
-        trues: 0,
-        truth: [0; 8],
     }
 }
 

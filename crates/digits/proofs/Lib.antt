@@ -1,6 +1,5 @@
 pub mod Table
 pub mod Worths
-pub mod Laws
-pub mod Bytes
+pub mod Pairs
 pub mod Filled
 pub mod Written

@@ -1,7 +1,7 @@
 // Hexadecimal digits. The worth of every byte value comes from one table.
 ghost use mathlib.Core.Path.{_≡_};
 ghost use lib.ListN.{getD};
-ghost use Rattle.digits.specs.Digits.{worth-of, pair-of, byte-at, bytes-at, padded-at, digit-of};
+ghost use Rattle.digits.specs.Digits.{worth-of, pair-of, bytes-of, padded, digit-of};
 
 const WORTHS: [u8; 256] = [
     255,
@@ -283,46 +283,27 @@ fn pair(high: u8, low: u8) -> u8
     high * 16 + low
 }
 
-// The byte that the digits at `place` and after it make; 0 where they are not two digits.
-fn byte_at(text: &[u8], place: usize) -> u8
-    ensures { λ r. ⌜ r ≡ byte-at (now (text .entry)) place ⌝ }
+// Byte i of the bytes that some characters make, two a byte; 0 past them.
+pub fn byte(characters: &[u8], i: usize) -> u8
+    ensures { λ r. ⌜ r ≡ getD (bytes-of (now (characters .entry))) i 0 ⌝ }
 {
-    if text.len() <= place {
+    if characters.len() / 2 <= i {
         return 0;
     }
-    let next = place + 1;
-    let high = worth(basics::element(text, place));
-    let low = worth(basics::element(text, next));
+    let high = worth(characters[2 * i]);
+    let low = worth(characters[2 * i + 1]);
     pair(high, low)
 }
 
-// Byte i of the `size` bytes whose digits start at `place`; 0 past them.
-pub fn byte(text: &[u8], place: usize, size: usize, i: usize) -> u8
-    ensures { λ r. ⌜ r ≡ getD (bytes-at (now (text .entry)) place size) i 0 ⌝ }
-{
-    if size <= i {
-        return 0;
-    }
-    if text.len() <= place {
-        return 0;
-    }
-    let rest = text.len() - place;
-    if rest <= i {
-        return 0;
-    }
-    let there = place + 2 * i;
-    byte_at(text, there)
-}
-
-// The first 256 of the `size` bytes whose digits start at `place`; zeros after them where there are fewer.
-pub fn bytes_at(text: &[u8], place: usize, size: usize) -> [u8; 256]
-    ensures { λ r. ⌜ r ≡ padded-at (now (text .entry)) place size ⌝ }
+// The first 256 of these bytes; zeros after them where there are fewer.
+pub fn bytes(characters: &[u8]) -> [u8; 256]
+    ensures { λ r. ⌜ r ≡ padded (bytes-of (now (characters .entry))) ⌝ }
 {
     let mut list = [0u8; 256];
-    let count = basics::smaller(size, 256);
+    let count = basics::smaller(characters.len() / 2, 256);
     let mut i: usize = 0;
     while i < count {
-        list[i] = byte(text, place, size, i);
+        list[i] = byte(characters, i);
         i += 1;
     }
     list

@@ -1,9 +1,3 @@
-pub mod Fill
-pub mod Bodies
-pub mod Turns
-pub mod Decodes
-pub mod Adding
-pub mod Gathering
-pub mod Finding
-pub mod Examining
 pub mod Starting
+pub mod ReadModel
+pub mod Examining

@@ -1,14 +1,2 @@
-pub mod Decoded
-pub mod Solved
-pub mod Agreement
-pub mod Sides
-pub mod SolvedMeaning
-pub mod Stock
-pub mod StockLaws
-pub mod Absorbed
-pub mod Kept
-pub mod Gathered
-pub mod Found
-pub mod DecodedModel
 pub mod Examined
 pub mod OneReply

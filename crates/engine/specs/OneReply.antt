@@ -3,19 +3,11 @@
 use Prim.Native.Nat.{ℕ}
 use mathlib.Core.Path.{_≡_, ap₂}
 use mathlib.Core.List.{List}
-use lib.ListN.{length}
 use Rattle.meaning.specs.OneReply.{one-reply}
 use Rattle.answers.specs.declared.Answer.{Answer}
-use Rattle.answers.specs.Answers.{answer, table-after}
 use Rattle.reading.specs.declared.Model.{Model}
-use Rattle.reading.specs.Reading.{reading}
 use Rattle.engine.specs.declared.Examined.{Examined}
-
--- what `examine` promises of its result and of the table that it leaves
-abbrev pub Examines : (text table : List ℕ) → Examined → List ℕ → Type 0
-Examines text table r left =
-    (r .answer ≡ answer text (length table)) × (r .model ≡ reading text .model)
-    × (left ≡ table-after text table)
+use Rattle.engine.specs.Examined.{Examines}
 
 pub one-examine : (text table : List ℕ) {r s : Examined} {xs ys : List ℕ}
     → Examines text table r xs → Examines text table s ys → (r ≡ s) × (xs ≡ ys)

@@ -1,2 +1,3 @@
-mod Meets
-pub mod Settled
+mod Folding
+pub mod Replies
+pub mod AsTruth

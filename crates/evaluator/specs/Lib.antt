@@ -1,4 +1,4 @@
 pub mod Values
 pub mod Replies
-pub mod Contract
+pub mod Folds
 pub mod OneReply

@@ -6,11 +6,12 @@ use mathlib.Core.Path.{_≡_}
 use mathlib.Core.List.{List}
 use lib.ListN.{length}
 use Rattle.meaning.specs.OneReply.{one-reply}
+use Rattle.truth.specs.Bits.{bit-of}
 use Rattle.formulas.specs.declared.Tuple.{Tuple}
 use Rattle.evaluator.specs.declared.Value.{Value}
 use Rattle.evaluator.specs.declared.Valued.{Valued}
 use Rattle.evaluator.specs.declared.WordAt.{WordAt}
-use Rattle.evaluator.specs.Values.{index-of, assignment}
+use Rattle.evaluator.specs.Values.{index-of, value-in}
 use Rattle.evaluator.specs.Replies.{ValueReply, WordReply, body-value}
 
 pub one-word-at : (body : List ℕ) (at : ℕ) (scope : Tuple) {r s : WordAt}
@@ -22,12 +23,12 @@ pub one-lookup : (table : List ℕ) (w : ℕ) {r s : ℕ} → r ≡ index-of tab
 one-lookup table w = one-reply
 
 pub one-value-at : (body : List ℕ) (at : ℕ) (scope : Tuple) (q : ℕ) (table truth : List ℕ) {r s : Valued}
-    → ValueReply (assignment table truth) body at scope q r
-    → ValueReply (assignment table truth) body at scope q s → r ≡ s
+    → ValueReply (value-in table (bit-of truth)) body at scope q r
+    → ValueReply (value-in table (bit-of truth)) body at scope q s → r ≡ s
 one-value-at body at scope n table truth p q =
     one-reply (p .replies (length body) (omega arith)) (q .replies (length body) (omega arith))
 
 pub one-evaluate : (body : List ℕ) (scope : Tuple) (table truth : List ℕ) {r s : Value}
-    → r ≡ body-value (assignment table truth) body scope
-    → s ≡ body-value (assignment table truth) body scope → r ≡ s
+    → r ≡ body-value (value-in table (bit-of truth)) body scope
+    → s ≡ body-value (value-in table (bit-of truth)) body scope → r ≡ s
 one-evaluate body scope table truth = one-reply

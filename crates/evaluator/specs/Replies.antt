@@ -23,11 +23,11 @@ use Rattle.evaluator.specs.Values.{valued}
 abbrev pub formula-there : ℕ → List ℕ → Tuple → ℕ → ℕ → Parsed Formula
 formula-there n s scope q at = when (leb (scope .count) (4 + q)) (formula-at n s (scope .count) q at)
 
-abbrev pub no-value : ℕ → Valued
-no-value at = record { ok = false; value = False; next = at }
+abbrev pub no-value : Valued
+no-value = record { ok = false; value = False; next = 0 }
 
 abbrev pub value-reply : (Formula → Value) → Parsed Formula → Valued
-value-reply d none = no-value 0
+value-reply d none = no-value
 value-reply d (some f e) = record { ok = true; value = d f; next = e }
 
 -- r is the value of the formula at `at`, where σ gives the value of each instance's word

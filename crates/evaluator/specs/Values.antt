@@ -1,14 +1,14 @@
 -- DEFINITIONS: the value of a formula, some of whose instances may be open. Document 01, "Meaning and reach".
--- With a number for every instance the value is the formula's truth; with none it is what is left of the simplified right side.
+-- Where every instance has a number it is the formula's truth; where none has, what its simplified form says.
 use Prim.Native.Nat.{ℕ, suc}
 use mathlib.Core.Bool.{Bool, true, false, not, cond}
 use mathlib.Core.List.{List, [], _∷_, _++_}
 use lib.Dec.{eqb, ltb}
 use lib.ListN.{length}
 use Rattle.meaning.specs.Logic.{over}
-use Rattle.meaning.specs.Formulas.{Formula, constant, joined, quantified, compared, instance, value, values, test-holds}
+use Rattle.meaning.specs.Formulas.{Formula, constant, joined, quantified, compared, instance}
+use Rattle.meaning.specs.Formulas.{value, values, test-holds}
 use Rattle.meaning.specs.Words.{word}
-use Rattle.truth.specs.Bits.{bit-of}
 use Rattle.evaluator.specs.declared.Value.{Value}
 use Rattle.evaluator.specs.declared.Value.the-variants.{False, True, Open}
 
@@ -42,8 +42,8 @@ decides all False = all
 decides all True = not all
 decides all Open = false
 
--- the value of a formula where σ gives the value of each instance's word and the variables in reach have the values v.
--- "Quantifiers are the `and` or `or` over values from 0 up"
+-- the value of a formula where σ gives the value of each instance's word and the variables in reach have the
+-- values v. "Quantifiers are the `and` or `or` over values from 0 up"
 unfoldable pub valued : Formula → (ℕ → Value) → List ℕ → Value
 valued (constant b) σ v = known b
 valued (joined all f g) σ v = join-value all (valued f σ v) (valued g σ v)
@@ -56,6 +56,6 @@ unfoldable pub index-of : List ℕ → ℕ → ℕ
 index-of [] w = 0
 index-of (x ∷ xs) w = cond (eqb x w) 0 (suc (index-of xs w))
 
--- the value of a word: the truth of its number in the table; open where it has none
-unfoldable pub assignment : List ℕ → List ℕ → ℕ → Value
-assignment table truth w = cond (ltb (index-of table w) (length table)) (known (bit-of truth (index-of table w))) Open
+-- the value of a word: what the set says of its number in the table; open where it has none
+unfoldable pub value-in : List ℕ → (ℕ → Bool) → ℕ → Value
+value-in table set w = cond (ltb (index-of table w) (length table)) (known (set (index-of table w))) Open

@@ -9,7 +9,6 @@ use lib.Dec.{eqb, leb}
 use lib.ListN.{length, getD, take, length-take, length-map, List·getD-map}
 use lib.Seq.{take-append-le, take-all, length-take-le, getD-take}
 use borrow.Author.Tests.{le-leb, lt-leb, leb-true, leb-false}
-use Rattle.digits.specs.Digits.{bytes-at}
 use Rattle.meaning.specs.Formulas.{Formula}
 use Rattle.meaning.specs.Ranges.{fits}
 use Rattle.formulas.specs.declared.Equation.{Equation}
@@ -48,26 +47,29 @@ signature l z k r h e =
     (rw e (four-first l z (min k 4) h (omega arith) ∙ take-most l k 4 h (leb k 4) refl), (e ∙ sym (length-take k l ∙ ap (min k) h), omega arith))
 
 -- a body of at most 256 bytes, read with its parameters in reach, against the first `count` of eight equations
-module _ (t : List ℕ) (e : Equation) (equations : List Equation) (count : ℕ) {v : Bool} {m : ℕ} where
-  pub body-long : 256 < e .length → Told (λ f. fits (signatures-of equations count) f (ranges-of e)) v m (body-at t e) false
-  unfolding body-at
-  body-long h = told-unless _ _ (lt-leb (e .length) 256 h)
+module _ (s : List ℕ) (e : Equation) (equations : List Equation) (count : ℕ) where
+  abbrev pub ReadAs : Bool → ℕ → Bool → Type 0
+  ReadAs v m ok = Told (λ f. v ≡ fits (signatures-of equations count) f (ranges-of e)) m (body-at s (ranges-of e)) ok
 
-  pub body-read : {sigs : List (List ℕ)} {s rs : List ℕ} {k : ℕ} {ok : Bool} → e .length ≤ 256
-      → sigs ≡ signatures-of equations count → s ≡ bytes-at t (e .place) (e .length) → rs ≡ ranges-of e → k ≡ length (ranges-of e)
-      → Told (λ f. fits sigs f rs) v m (formula-at (e .length) s k 0 0) ok
-      → Told (λ f. fits (signatures-of equations count) f (ranges-of e)) v m (body-at t e) ok
+  pub body-long : {v : Bool} {m : ℕ} → 256 < length s → ReadAs v m false
   unfolding body-at
-  body-read l es eb er ek p = told-when _ (le-leb (e .length) 256 l) (rw (es, eb, er, ek) at p)
+  body-long h = told-unless _ _ (lt-leb (length s) 256 h)
 
-  pub fitting-found : Told (λ f. fits (signatures-of equations count) f (ranges-of e)) v m (body-at t e) true → v ≡ is-fitting equations count t e
+  pub body-read : {v : Bool} {m : ℕ} {sigs : List (List ℕ)} {rs : List ℕ} {k : ℕ} {ok : Bool} → length s ≤ 256
+      → sigs ≡ signatures-of equations count → rs ≡ ranges-of e → k ≡ length (ranges-of e)
+      → Told (λ f. v ≡ fits sigs f rs) m (formula-at (length s) s k 0 0) ok → ReadAs v m ok
+  unfolding body-at
+  body-read l es er ek p = told-when _ (le-leb (length s) 256 l) (rw (es, er, ek) at p)
+
+  pub fitting-found : {v : Bool} {m : ℕ} → ReadAs v m true → v ≡ is-fitting (signatures-of equations count) s (ranges-of e)
   unfolding is-fitting
   fitting-found p = told-found p
 
-  pub fitting-lost : Told (λ f. fits (signatures-of equations count) f (ranges-of e)) v m (body-at t e) false → true ≡ is-fitting equations count t e
+  pub fitting-lost : {v : Bool} {m : ℕ} → ReadAs v m false → true ≡ is-fitting (signatures-of equations count) s (ranges-of e)
   unfolding is-fitting fits
   fitting-lost p = rw (told-lost p) refl
 
-pub body-judged : (t : List ℕ) (e : Equation) {d : Formula → Bool} {v ok : Bool} {m : ℕ} → Told d v m (body-at t e) ok → ok && eqb m (e .length) ≡ is-body t e
+pub body-judged : (s rs : List ℕ) {P : Formula → Type 0} {ok : Bool} {m : ℕ} → Told P m (body-at s rs) ok
+    → ok && eqb m (length s) ≡ is-body s rs
 unfolding is-body
-body-judged t e p = told-ends (e .length) p
+body-judged s rs p = told-ends (length s) p

@@ -1,139 +1,292 @@
--- What is told of each kind of term and of formula, for anything d that a reading may tell of what was read.
--- Each law is one step of the decoder; the reader tells ranges and fits by them, an evaluator values.
-use Prim.Native.Nat.{ℕ, zero, suc, _+_, _≤_, _<_}
+-- The laws by kind: what is told of a term or of a formula of a kind, where it is told of its parts.
+-- Each law is one step of the decoder, and P any property of what was read: its range, its value, what is left in it.
+use Prim.Native.Nat.{ℕ, zero, suc, _+_, _-_, _≤_, _<_}
 use native.Mathlib.Omega.{arith}
-use mathlib.Core.Path.{_≡_}
-use mathlib.Core.Bool.{Bool, true, false}
-use mathlib.Core.List.{List}
-use lib.ListN.{length, getD}
-use borrow.Author.Tests.{lt-ltb, le-ltb, le-leb, lt-leb}
-use Rattle.meaning.specs.Formulas.{Term, number, variable, calculated, Formula, constant, joined, quantified, compared}
+use mathlib.Core.Path.{_≡_, refl, sym, ap, _∙_}
+use mathlib.Core.Bool.{Bool, true, false, _&&_}
+use mathlib.Core.List.{List, [], _∷_}
+use lib.Dec.{leb}
+use lib.ListN.{length, getD, List·getD-eq-default}
+use borrow.Author.Tests.{lt-ltb, le-ltb, le-leb, lt-leb, leb-true, leb-false}
+use Rattle.meaning.specs.Formulas.{Term, number, variable, calculated}
+use Rattle.meaning.specs.Formulas.{Formula, constant, joined, quantified, compared, instance}
 use Rattle.meaning.specs.Ranges.{is-range}
+use Rattle.formulas.specs.declared.Kind.{Kind}
 use Rattle.formulas.specs.declared.Kind.the-variants.{NoFormula, Constant, Join, Quantifier, Compare, Instance}
+use Rattle.formulas.specs.declared.TermKind.{TermKind}
 use Rattle.formulas.specs.declared.TermKind.the-variants.{NoTerm, Number, Variable, Calculation}
 use Rattle.formulas.specs.declared.Test.{Test}
 use Rattle.formulas.specs.Codes.{kind-of, term-kind-of}
-use Rattle.formulas.specs.Decode.{Parsed, test-of, term-at, formula-at}
-use Rattle.formulas.specs.Shapes.{shape-no-term, shape-number, shape-variable, shape-calculation}
-use Rattle.formulas.specs.Shapes.{shape-no-formula, shape-constant, shape-join, shape-quantifier}
-use Rattle.formulas.specs.Shapes.{compared-at, instance-at, shape-compare, shape-instance}
-use Rattle.formulas.specs.Contract.{Told, refused, told}
-use Rattle.formulas.proofs.Told.{told-then, told-stop, told-last, told-when, told-unless, deep}
-
--- what is told of what `one` reads at a place, however deep it reads, where that is deep enough
-abbrev pub TellsAt : {A B : Type 0} → List ℕ → (ℕ → ℕ → Parsed A) → (A → B) → ℕ → Bool → B → ℕ → Type 0
-TellsAt s one d at ok v e = (n : ℕ) → length s ≤ n + at → Told d v e (one n at) ok
-
-abbrev TermTells : {B : Type 0} → (Term → B) → List ℕ → ℕ → ℕ → Bool → B → ℕ → Type 0
-TermTells d s k = TellsAt s (λ n. term-at n s k) d
-
-abbrev FormulaTells : {B : Type 0} → (Formula → B) → List ℕ → ℕ → ℕ → ℕ → Bool → B → ℕ → Type 0
-FormulaTells d s k q = TellsAt s (λ n. formula-at n s k q) d
+use Rattle.formulas.specs.Decode.{in-row, nth-term, test-of, term-at, formula-at}
+use Rattle.formulas.specs.Shapes.{no-term-kind, shape-no-term, shape-number, shape-variable, shape-calculation}
+use Rattle.formulas.specs.Shapes.{no-kind, shape-no-formula, shape-constant, shape-join, shape-quantifier}
+use Rattle.formulas.specs.Shapes.{instance-at, shape-compare, shape-instance}
+use Rattle.formulas.specs.Contract.{Told, refused, told, TermTold, TermsTold, InstanceTold}
+use Rattle.formulas.specs.Contract.{ToldWithin, within, FormulaTold}
+use Rattle.formulas.proofs.Told.{told-then, told-stop, told-last, told-when, told-unless, told-map, told-both}
+use Rattle.formulas.proofs.Told.{within-then, within-stop, within-last, within-when, within-map, within-lost}
+use Rattle.formulas.proofs.Told.{told-whole, deep}
+use Rattle.formulas.proofs.Decoded.{Every, From, every-when, every-last, told-on, told-past, told-every, told-never}
+use Rattle.formulas.proofs.Decoded.{every-term, every-terms, every-formula}
 
 -- ---- terms
-module _ {B : Type 0} (d : Term → B) (s : List ℕ) (k at : ℕ) (v : B) (e : ℕ) where
-  abbrev TermIs : Bool → ℕ → Type 0
-  TermIs ok n = Told d v e (term-at n s k at) ok
+-- a term that was read goes on from its place
+pub term-on : {P : Term → Type 0} {s : List ℕ} {k at e : ℕ} {ok : Bool} → TermTold P s k at ok e → ok ≡ true → at ≤ e
+term-on {s} {k} {at} t z =
+    told-on {limit = 0} {size = 0} (within (rw z at (t .tells (length s) (omega arith)))) (every-term s k (length s) at)
 
-  pub told-no-term : (n : ℕ) → term-kind-of (getD s at 0) ≡ NoTerm → TermIs false n
-  unfolding term-at
-  told-no-term zero h = refused
-  told-no-term (suc n) h = rw (shape-no-term n s k at h) refused
+-- whether it is read may hang on a test
+pub term-by : {P : Term → Type 0} {s : List ℕ} {k at e : ℕ} (b : Bool) → (b ≡ true → TermTold P s k at true e)
+    → (b ≡ false → TermTold P s k at false e) → TermTold P s k at b e
+term-by true f g = f refl
+term-by false f g = g refl
 
-  module _ (n : ℕ) (l : length s ≤ n + at) (i : at < length s) where
-    pub told-number-no : term-kind-of (getD s at 0) ≡ Number → 15 < getD s (at + 1) 0 → TermIs false n
-    told-number-no h b = deep s at (TermIs false) n l i
-        (λ m _. rw (shape-number m s k at h) (told-unless _ _ (lt-leb _ _ b)))
+-- ---- terms in a row: none, the next one stops it, one more, the last, and two
+pub terms-none : {P : List Term → Type 0} {c : ℕ} {s : List ℕ} {k at : ℕ} → c ≡ 0 → P [] → TermsTold P c s k at true at
+unfolding in-row
+terms-none h p = record { tells = λ n _. rw h (told p) }
 
-    pub told-number : term-kind-of (getD s at 0) ≡ Number → getD s (at + 1) 0 ≤ 15
-        → v ≡ d (number (getD s (at + 1) 0)) → e ≡ at + 2 → TermIs true n
-    told-number h b x y = deep s at (TermIs true) n l i
-        (λ m _. rw (shape-number m s k at h, y) (told-when _ (le-leb _ _ b) (told x)))
+one-more : {c : ℕ} → 0 < c → c ≡ suc (c - 1)
+one-more h = omega arith
 
-    pub told-variable-no : term-kind-of (getD s at 0) ≡ Variable → k ≤ getD s (at + 1) 0 → TermIs false n
-    told-variable-no h b = deep s at (TermIs false) n l i
-        (λ m _. rw (shape-variable m s k at h) (told-unless _ _ (le-ltb _ _ b)))
+module _ {P : List Term → Type 0} {c : ℕ} (some : 0 < c) {s : List ℕ} {k at e : ℕ} {Q : Term → Type 0} {one : Bool} {m : ℕ}
+    (first : TermTold Q s k at one m) where
+  pub terms-stop : one ≡ false → TermsTold P c s k at false e
+  unfolding in-row
+  terms-stop z = record { tells = λ n l. rw (one-more some) (told-stop _ (rw z at (first .tells n l))) }
 
-    pub told-variable : term-kind-of (getD s at 0) ≡ Variable → getD s (at + 1) 0 < k
-        → v ≡ d (variable (getD s (at + 1) 0)) → e ≡ at + 2 → TermIs true n
-    told-variable h b x y = deep s at (TermIs true) n l i
-        (λ m _. rw (shape-variable m s k at h, y) (told-when _ (lt-ltb _ _ b) (told x)))
+  pub terms-more : {R : List Term → Type 0} {ok : Bool} → one ≡ true → TermsTold R (c - 1) s k m ok e
+      → ((a : Term) (l : List Term) → Q a → R l → P (a ∷ l)) → TermsTold P c s k at ok e
+  unfolding in-row
+  terms-more z rest f = record {
+    tells = λ n l. rw (one-more some) (told-then _ (rw z at (first .tells n l))
+        (λ a p. told-last _ (rest .tells n (omega (arith, term-on first z))) (λ l q. f a l p q)));
+  }
 
-    module _ (plus : Bool) (h : term-kind-of (getD s at 0) ≡ Calculation plus) where
-      pub told-calculation-no : is-range (getD s (at + 1) 0) ≡ false → TermIs false n
-      told-calculation-no r = deep s at (TermIs false) n l i
-          (λ m _. rw (shape-calculation m s k at plus h) (told-unless _ _ r))
+pub terms-last : {P : List Term → Type 0} {Q : Term → Type 0} {s : List ℕ} {k at e : ℕ} {ok : Bool} → TermTold Q s k at ok e
+    → ((a : Term) → Q a → P (a ∷ [])) → TermsTold P 1 s k at ok e
+unfolding in-row
+terms-last t f = record { tells = λ n l. told-last (λ a. a ∷ []) (t .tells n l) f }
 
-      module _ (r : is-range (getD s (at + 1) 0) ≡ true) {a : B} {j : ℕ} where
-        pub told-calculation-stop : TermTells d s k (at + 2) false a j → TermIs false n
-        told-calculation-stop f = deep s at (TermIs false) n l i
-            (λ m m′. rw (shape-calculation m s k at plus h) (told-when _ r (told-stop _ (f m (omega arith)))))
+pub terms-map : {P Q : List Term → Type 0} {c : ℕ} {s : List ℕ} {k at e : ℕ} {ok : Bool} → TermsTold Q c s k at ok e
+    → ((ts : List Term) → Q ts → P ts) → TermsTold P c s k at ok e
+terms-map t f = record { tells = λ n l. told-map (t .tells n l) f }
 
-        pub told-calculation : {b : B} {ok : Bool} → at + 2 ≤ j → TermTells d s k (at + 2) true a j → TermTells d s k j ok b e
-            → ((t u : Term) → a ≡ d t → b ≡ d u → v ≡ d (calculated plus (getD s (at + 1) 0) t u)) → TermIs ok n
-        told-calculation {ok} on f g z = deep s at (TermIs ok) n l i
-            (λ m m′. rw (shape-calculation m s k at plus h) (told-when _ r (told-then _ (f m (omega arith))
-            (λ t p. told-last _ (g m (omega arith)) (λ u q. z t u p q)))))
+pub two-terms : {Q R : Term → Type 0} {s : List ℕ} {k at m e : ℕ} {one ok : Bool} → TermTold Q s k at one m → one ≡ true
+    → TermTold R s k m ok e → TermsTold (λ ts. Q (nth-term ts 0) × R (nth-term ts 1)) 2 s k at ok e
+two-terms {R} first z second =
+    terms-more (omega arith) first z (terms-last {P = λ ts. R (nth-term ts 0)} second (λ b r. r)) (λ a ts q r. (q, r))
 
--- ---- the two terms of a test
-module _ {B C : Type 0} (c : Term → C) (d : Formula → B) (n : ℕ) (t : Test) (s : List ℕ) (k at : ℕ)
-    {v : B} {e : ℕ} {a : C} {j : ℕ} where
-  pub told-compared-stop : Told c a j (term-at n s k at) false → Told d v e (compared-at n t s k at) false
-  told-compared-stop f = told-stop _ f
+-- byte 0, which is what stands past the end, is no code
+no-term : {P : Term → Type 0} (s : List ℕ) (k at : ℕ) {e : ℕ} → term-kind-of (getD s at 0) ≡ NoTerm → (n : ℕ)
+    → Told P e (term-at n s k at) false
+unfolding term-at
+no-term s k at h zero = refused
+no-term s k at h (suc n) = rw (shape-no-term n s k at h) refused
 
-  pub told-compared : {b : C} {ok : Bool} → Told c a j (term-at n s k at) true → Told c b e (term-at n s k j) ok
-      → ((x y : Term) → a ≡ c x → b ≡ c y → v ≡ d (compared (test-of t) x y))
-      → Told d v e (compared-at n t s k at) ok
-  told-compared f g z = told-then _ f (λ x p. told-last _ g (λ y q. z x y p q))
+pub term-past : {P : Term → Type 0} {s : List ℕ} {k at e : ℕ} → length s ≤ at → TermTold P s k at false e
+term-past {s} {k} {at} h = record { tells = λ n _. no-term s k at (rw (List·getD-eq-default s 0 {n = at} h) no-term-kind) n }
+
+-- what is read in front of a term: the byte x behind its code, and the code's kind
+pub record TermHead (s : List ℕ) (at x : ℕ) (kind : TermKind) : Type 0 where
+  pub inside : at < length s
+  pub byte : x ≡ getD s (at + 1) 0
+  pub named : kind ≡ term-kind-of (getD s at 0)
+
+module _ {s : List ℕ} {at x : ℕ} {kind : TermKind} (h : TermHead s at x kind) where
+  coded : {t : TermKind} → kind ≡ t → term-kind-of (getD s at 0) ≡ t
+  coded t = sym (h .named) ∙ t
+
+  module _ {P : Term → Type 0} {k e : ℕ} where
+    term-step : {ok : Bool} → ((n : ℕ) → length s ≤ n + (at + 1) → Told P e (term-at (suc n) s k at) ok)
+        → TermTold P s k at ok e
+    term-step {ok} f = record { tells = λ n l. deep s at (λ n. Told P e (term-at n s k at) ok) n l (h .inside) f }
+
+    pub term-none : kind ≡ NoTerm → TermTold P s k at false e
+    term-none t = record { tells = λ n _. no-term s k at (coded t) n }
+
+    pub term-number-no : kind ≡ Number → 15 < x → TermTold P s k at false e
+    term-number-no t b = term-step (λ n _. rw (shape-number n s k at (coded t), ← h .byte) (told-unless _ _ (lt-leb x 15 b)))
+
+    pub term-number : kind ≡ Number → x ≤ 15 → P (number x) → e ≡ at + 2 → TermTold P s k at true e
+    term-number t b p y =
+        term-step (λ n _. rw (shape-number n s k at (coded t), ← h .byte, ← y) (told-when _ (le-leb x 15 b) (told p)))
+
+    pub term-variable-no : kind ≡ Variable → k ≤ x → TermTold P s k at false e
+    term-variable-no t b = term-step (λ n _. rw (shape-variable n s k at (coded t), ← h .byte) (told-unless _ _ (le-ltb x k b)))
+
+    pub term-variable : kind ≡ Variable → x < k → P (variable x) → e ≡ at + 2 → TermTold P s k at true e
+    term-variable t b p y =
+        term-step (λ n _. rw (shape-variable n s k at (coded t), ← h .byte, ← y) (told-when _ (lt-ltb x k b) (told p)))
+
+    module _ {plus : Bool} (t : kind ≡ Calculation plus) where
+      pub term-calculation-no : is-range x ≡ false → TermTold P s k at false e
+      term-calculation-no r =
+          term-step (λ n _. rw (shape-calculation n s k at plus (coded t), ← h .byte) (told-unless _ _ r))
+
+      pub term-calculation : {Q : List Term → Type 0} {ok : Bool} → is-range x ≡ true → TermsTold Q 2 s k (at + 2) ok e
+          → ((ts : List Term) → Q ts → P (calculated plus x (nth-term ts 0) (nth-term ts 1))) → TermTold P s k at ok e
+      term-calculation r two f =
+          term-step (λ n l. rw (shape-calculation n s k at plus (coded t), ← h .byte)
+          (told-when _ r (told-last _ (two .tells n (omega arith)) f)))
+
+-- ---- an instance: its equation, how many arguments it has, and these
+module _ {P : Formula → Type 0} {s : List ℕ} {k at e c : ℕ} (number : c ≡ getD s (at + 1) 0) where
+  pub instance-no : 4 < c → InstanceTold P s k at false e
+  instance-no h = record { tells = λ n _. rw (← number) (told-unless _ _ (lt-leb c 4 h)) }
+
+  module _ (few : c ≤ 4) {Q : List Term → Type 0} where
+    pub instance-stop : {one : Bool} {m : ℕ} → TermsTold Q c s k (at + 2) one m → one ≡ false → InstanceTold P s k at false e
+    instance-stop t z = record {
+      tells = λ n l. rw (← number) (told-when _ (le-leb c 4 few) (told-stop _ (rw z at (t .tells n (omega arith)))));
+    }
+
+    pub instance-read : {x : ℕ} {ok : Bool} → x ≡ getD s at 0 → TermsTold Q c s k (at + 2) ok e
+        → ((l : List Term) → length l ≡ c → Q l → P (instance x l)) → InstanceTold P s k at ok e
+    instance-read i t f = record {
+      tells = λ n l. rw (← i, ← number) (told-when _ (le-leb c 4 few)
+          (told-last _ (told-every (t .tells n (omega arith)) (every-terms s k n c (at + 2))) (λ l q. f l (q .1 .long) (q .0))));
+    }
+
+-- an instance that was read takes two bytes at least, and what is told of it may be said in other words
+every-instance : {P : Formula → Type 0} (s : List ℕ) (k at n : ℕ) → ((l : List Term) → P (instance (getD s at 0) l))
+    → Every (From P (at + 2)) (instance-at n s k at)
+every-instance s k at n f =
+    every-when (leb (getD s (at + 1) 0) 4) (λ _. every-last (instance (getD s at 0))
+    (every-terms s k n (getD s (at + 1) 0) (at + 2)) (λ l e r. (f l, r .on)))
+
+pub instance-on : {P : Formula → Type 0} {s : List ℕ} {k at e : ℕ} {ok : Bool} → InstanceTold P s k at ok e → ok ≡ true
+    → at + 2 ≤ e
+instance-on {s} {k} {at} t z =
+    told-on {limit = 0} {size = 0} (within (rw z at (t .tells (length s) (omega arith))))
+    (every-instance {P = λ f. f ≡ f} s k at (length s) (λ l. refl))
+
+pub instance-map : {P Q : Formula → Type 0} {s : List ℕ} {k at e : ℕ} {ok : Bool} → InstanceTold Q s k at ok e
+    → ((l : List Term) → Q (instance (getD s at 0) l) → P (instance (getD s at 0) l)) → InstanceTold P s k at ok e
+instance-map {P} {Q} {s} {k} {at} t f = record {
+  tells = λ n l. told-map (told-every (t .tells n l) (every-instance {P = λ g. Q g → P g} s k at n f)) (λ g h. h .1 .0 (h .0));
+}
 
 -- ---- formulas
-module _ {B : Type 0} (d : Formula → B) (s : List ℕ) (k q at : ℕ) (v : B) (e : ℕ) where
-  abbrev FormulaIs : Bool → ℕ → Type 0
-  FormulaIs ok n = Told d v e (formula-at n s k q at) ok
+-- a formula takes a byte at least
+pub formula-on : {P : Formula → Type 0} {s : List ℕ} {limit k q at e : ℕ} {ok : Bool} → FormulaTold P s limit k q at ok e
+    → ok ≡ true → at < e
+formula-on {s} {k} {q} {at} t z =
+    omega (arith, told-on (rw z at (t .tells (length s) (omega arith))) (every-formula s (length s) k q at))
 
-  pub told-no-formula : (n : ℕ) → kind-of (getD s at 0) ≡ NoFormula → FormulaIs false n
-  unfolding formula-at
-  told-no-formula zero h = refused
-  told-no-formula (suc n) h = rw (shape-no-formula n s k q at h) refused
+-- byte 0 is no code here either; and what starts at the limit or later ends past it
+no-formula : {P : Formula → Type 0} (s : List ℕ) (k q at : ℕ) {e : ℕ} → kind-of (getD s at 0) ≡ NoFormula → (n : ℕ)
+    → Told P e (formula-at n s k q at) false
+unfolding formula-at
+no-formula s k q at h zero = refused
+no-formula s k q at h (suc n) = rw (shape-no-formula n s k q at h) refused
 
-  module _ (n : ℕ) (l : length s ≤ n + at) (i : at < length s) where
-    pub told-constant : (b : Bool) → kind-of (getD s at 0) ≡ Constant b → v ≡ d (constant b) → e ≡ at + 1
-        → FormulaIs true n
-    told-constant b h x y = deep s at (FormulaIs true) n l i
-        (λ m _. rw (shape-constant m s k q at b h, y) (told x))
+late : {P : Formula → Type 0} (s : List ℕ) (k q at : ℕ) {limit e : ℕ} → limit ≤ at → (n : ℕ)
+    → ToldWithin limit (length s) P e (formula-at n s k q at) false
+late {P} s k q at {limit} {e} h n = of-place (leb (length s) at) refl
+  where
+    of-place : (b : Bool) → leb (length s) at ≡ b → ToldWithin limit (length s) P e (formula-at n s k q at) false
+    of-place true l = within (no-formula s k q at (rw (List·getD-eq-default s 0 {n = at} (leb-true (length s) at l)) no-kind) n)
+    of-place false l = told-past (omega (arith, leb-false (length s) at l)) (omega arith) (every-formula s n k q at)
 
-    module _ (all : Bool) (h : kind-of (getD s at 0) ≡ Join all) {a : B} {j : ℕ} where
-      pub told-join-stop : FormulaTells d s k q (at + 1) false a j → FormulaIs false n
-      told-join-stop f = deep s at (FormulaIs false) n l i
-          (λ m m′. rw (shape-join m s k q at all h) (told-stop _ (f m m′)))
+pub formula-late : {P : Formula → Type 0} {s : List ℕ} {limit k q at e : ℕ} → limit ≤ at → FormulaTold P s limit k q at false e
+formula-late {s} {k} {q} {at} h = record { tells = λ n _. late s k q at h n }
 
-      pub told-join : {b : B} {ok : Bool} → at + 1 ≤ j → FormulaTells d s k q (at + 1) true a j → FormulaTells d s k q j ok b e
-          → ((f g : Formula) → a ≡ d f → b ≡ d g → v ≡ d (joined all f g)) → FormulaIs ok n
-      told-join {ok} on f g z = deep s at (FormulaIs ok) n l i
-          (λ m m′. rw (shape-join m s k q at all h) (told-then _ (f m m′)
-          (λ x p. told-last _ (g m (omega arith)) (λ y r. z x y p r))))
+-- what is told may be said in other words, also where nothing was read; two things that are told go together, with no limit
+module _ {P Q : Formula → Type 0} {s : List ℕ} {k q at e : ℕ} {ok : Bool} where
+  pub formula-map : {limit : ℕ} → FormulaTold Q s limit k q at ok e → ((f : Formula) → Q f → P f)
+      → FormulaTold P s limit k q at ok e
+  formula-map t f = record { tells = λ n l. within-map (t .tells n l) f }
 
-    module _ (all : Bool) (h : kind-of (getD s at 0) ≡ Quantifier all) where
-      pub told-quantifier-deep : 4 ≤ q → FormulaIs false n
-      told-quantifier-deep b = deep s at (FormulaIs false) n l i
-          (λ m _. rw (shape-quantifier m s k q at all h) (told-unless _ _ (le-ltb _ _ b)))
+  pub formula-lost : {limit m : ℕ} → FormulaTold Q s limit k q at ok m → ok ≡ false → FormulaTold P s limit k q at ok e
+  formula-lost t z = record { tells = λ n l. rw z (within-lost (rw z at (t .tells n l))) }
 
-      module _ (b : q < 4) where
-        pub told-quantifier-no : is-range (getD s (at + 1) 0) ≡ false → FormulaIs false n
-        told-quantifier-no r = deep s at (FormulaIs false) n l i
-            (λ m _. rw (shape-quantifier m s k q at all h) (told-when _ (lt-ltb _ _ b) (told-unless _ _ r)))
+  pub formula-both : {m : ℕ} {yes : Bool} → FormulaTold P s (length s) k q at ok e → FormulaTold Q s (length s) k q at yes m
+      → FormulaTold (λ f. P f × Q f) s (length s) k q at ok e
+  formula-both t u = record {
+    tells = λ n l. within (told-both (told-whole (omega arith) (t .tells n l)) (told-whole (omega arith) (u .tells n l)));
+  }
 
-        pub told-quantifier : {C : Type 0} (c : Formula → C) {w : C} {ok : Bool} → is-range (getD s (at + 1) 0) ≡ true
-            → TellsAt s (λ m. formula-at m s (k + 1) (q + 1)) c (at + 2) ok w e
-            → ((f : Formula) → w ≡ c f → v ≡ d (quantified all (getD s (at + 1) 0) f)) → FormulaIs ok n
-        told-quantifier c {ok} r f z = deep s at (FormulaIs ok) n l i
-            (λ m m′. rw (shape-quantifier m s k q at all h) (told-when _ (lt-ltb _ _ b) (told-when _ r
-            (told-last _ (f m (omega arith)) z))))
+-- what is read in front of a formula: the code's kind
+pub record Head (s : List ℕ) (at : ℕ) (kind : Kind) : Type 0 where
+  pub inside : at < length s
+  pub named : kind ≡ kind-of (getD s at 0)
 
-    pub told-compare : {ok : Bool} (t : Test) → kind-of (getD s at 0) ≡ Compare t
-        → TellsAt s (λ m. compared-at m t s k) d (at + 1) ok v e → FormulaIs ok n
-    told-compare {ok} t h f = deep s at (FormulaIs ok) n l i (λ m m′. rw (shape-compare m s k q at t h) (f m m′))
+module _ {s : List ℕ} {at : ℕ} {kind : Kind} (h : Head s at kind) where
+  kinded : {t : Kind} → kind ≡ t → kind-of (getD s at 0) ≡ t
+  kinded t = sym (h .named) ∙ t
 
-    pub told-instance : {ok : Bool} → kind-of (getD s at 0) ≡ Instance
-        → TellsAt s (λ m. instance-at m s k) d (at + 1) ok v e → FormulaIs ok n
-    told-instance {ok} h f = deep s at (FormulaIs ok) n l i (λ m m′. rw (shape-instance m s k q at h) (f m m′))
+  module _ {P : Formula → Type 0} {limit k q e : ℕ} where
+    formula-step : {ok : Bool}
+        → ((n : ℕ) → length s ≤ n + (at + 1) → ToldWithin limit (length s) P e (formula-at (suc n) s k q at) ok)
+        → FormulaTold P s limit k q at ok e
+    formula-step {ok} f = record {
+      tells = λ n l. deep s at (λ n. ToldWithin limit (length s) P e (formula-at n s k q at) ok) n l (h .inside) f;
+    }
+
+    pub formula-none : kind ≡ NoFormula → FormulaTold P s limit k q at false e
+    formula-none t = record { tells = λ n _. within (no-formula s k q at (kinded t) n) }
+
+    pub formula-constant : {b : Bool} → kind ≡ Constant b → P (constant b) → e ≡ at + 1 → FormulaTold P s limit k q at true e
+    formula-constant {b} t p y = formula-step (λ n _. rw (shape-constant n s k q at b (kinded t), ← y) (within (told p)))
+
+    -- the first operand has a limit of its own, at most a byte less: the second takes a byte at least
+    module _ {all : Bool} (t : kind ≡ Join all) {Q : Formula → Type 0} {low : ℕ} {one : Bool} {m : ℕ}
+        (first : FormulaTold Q s low k q (at + 1) one m) where
+      pub formula-join-stop : limit ≤ low + 1 → one ≡ false → FormulaTold P s limit k q at false e
+      formula-join-stop b z =
+          formula-step (λ n l. rw (shape-join n s k q at all (kinded t)) (within-stop _ (rw z at (first .tells n l))
+          (λ f j y. within-last (joined all f) (late {P = λ g. P (joined all f g)} s k q j (omega arith) n) (λ g p. p))))
+
+      pub formula-join : {R : Formula → Type 0} {ok : Bool} → one ≡ true → FormulaTold R s limit k q m ok e
+          → ((f g : Formula) → Q f → R g → P (joined all f g)) → FormulaTold P s limit k q at ok e
+      formula-join z second f =
+          formula-step (λ n l. rw (shape-join n s k q at all (kinded t)) (within-then _ (rw z at (first .tells n l))
+          (λ x p. within-last _ (second .tells n (omega (arith, formula-on first z))) (λ y r. f x y p r))))
+
+      -- where the code does not say whether the operands were read
+      pub formula-joined : {R : Formula → Type 0} {ok : Bool} → limit ≤ low + 1 → FormulaTold R s limit k q m ok e
+          → ((f g : Formula) → Q f → R g → P (joined all f g)) → FormulaTold P s limit k q at (one && ok) e
+      formula-joined {ok} b second f = by-first one refl
+        where
+          by-first : (z : Bool) → one ≡ z → FormulaTold P s limit k q at (z && ok) e
+          by-first true z = formula-join z second f
+          by-first false z = formula-join-stop b z
+
+    module _ {all : Bool} (t : kind ≡ Quantifier all) where
+      pub formula-fifth : 4 ≤ q → FormulaTold P s limit k q at false e
+      formula-fifth d =
+          formula-step (λ n _. rw (shape-quantifier n s k q at all (kinded t)) (within (told-unless _ _ (le-ltb q 4 d))))
+
+      module _ (d : q < 4) {r : ℕ} (byte : r ≡ getD s (at + 1) 0) where
+        pub formula-quantifier-no : is-range r ≡ false → FormulaTold P s limit k q at false e
+        formula-quantifier-no i =
+            formula-step (λ n _. rw (shape-quantifier n s k q at all (kinded t), ← byte)
+            (within (told-when _ (lt-ltb q 4 d) (told-unless _ _ i))))
+
+        pub formula-quantifier : {Q : Formula → Type 0} {ok : Bool} → is-range r ≡ true
+            → FormulaTold Q s limit (k + 1) (q + 1) (at + 2) ok e → ((f : Formula) → Q f → P (quantified all r f))
+            → FormulaTold P s limit k q at ok e
+        formula-quantifier i inner f =
+            formula-step (λ n l. rw (shape-quantifier n s k q at all (kinded t), ← byte)
+            (within-when _ (lt-ltb q 4 d) (within-when _ i (within-last _ (inner .tells n (omega arith)) f))))
+
+    pub formula-compare : {test : Test} {Q : List Term → Type 0} {ok : Bool} → kind ≡ Compare test
+        → TermsTold Q 2 s k (at + 1) ok e
+        → ((ts : List Term) → Q ts → P (compared (test-of test) (nth-term ts 0) (nth-term ts 1)))
+        → FormulaTold P s limit k q at ok e
+    formula-compare {test} t two f =
+        formula-step (λ n l. rw (shape-compare n s k q at test (kinded t)) (within (told-last _ (two .tells n l) f)))
+
+    -- what is told of no test is told of nothing that was read there
+    pub formula-compare-never : {Q : Formula → Type 0} {test : Test} {ok : Bool} {m : ℕ} → kind ≡ Compare test
+        → FormulaTold Q s (length s) k q at ok m → ((a b : Term) → Q (compared (test-of test) a b) → ⊥)
+        → FormulaTold P s limit k q at false e
+    formula-compare-never {test} t u f =
+        formula-step (λ n l.
+        let shape = shape-compare n s k q at test (kinded t) in
+        rw shape (within (told-never (rw shape at (told-whole (omega arith) (u .tells (suc n) (omega arith))))
+        (every-last _ (every-terms s k n 2 (at + 1)) (λ ts e _. f (nth-term ts 0) (nth-term ts 1))))))
+
+    pub formula-instance : {ok : Bool} → kind ≡ Instance → InstanceTold P s k (at + 1) ok e → FormulaTold P s limit k q at ok e
+    formula-instance t i = formula-step (λ n l. rw (shape-instance n s k q at (kinded t)) (within (i .tells n l)))

@@ -4,6 +4,4 @@ pub mod Columns
 pub mod Bodies
 pub mod Signatures
 pub mod Decoded
-pub mod Limits
-pub mod Terms
-pub mod Formulas
+pub mod Fitting

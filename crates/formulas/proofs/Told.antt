@@ -1,4 +1,4 @@
--- How `Told` goes over what the decoder is made of, `then` and `when`.
+-- How `Told` goes over what the decoder is made of, `then` and `when`; and `ToldWithin`, which has a limit.
 -- By cases on what was told; where there is a byte the decoder is deep enough for one step.
 use Prim.Native.Nat.{ℕ, zero, suc, _+_, _≤_, _<_}
 use native.Mathlib.Omega.{arith}
@@ -7,62 +7,97 @@ use mathlib.Core.Bool.{Bool, true, false, _&&_}
 use mathlib.Core.List.{List}
 use lib.Dec.{eqb}
 use lib.ListN.{length}
-use Rattle.meaning.specs.Logic.{_and_}
 use Rattle.meaning.specs.Formulas.{Formula, constant}
 use Rattle.formulas.specs.Decode.{Parsed, some, then, when}
 use Rattle.formulas.specs.Bodies.{found, ends}
-use Rattle.formulas.specs.Contract.{Told, refused, told}
+use Rattle.formulas.specs.Contract.{Told, refused, told, ToldWithin, within, past}
 
-pub and-same : (a b : Bool) → a && b ≡ a and b
-unfolding _and_
-and-same true b = refl
-and-same false b = refl
+module _ {A B : Type 0} {P : A → Type 0} {Q : B → Type 0} where
+  pub told-then : {p : Parsed A} {m e : ℕ} {ok : Bool} (k : A → ℕ → Parsed B) → Told P m p true
+      → ((a : A) → P a → Told Q e (k a m) ok) → Told Q e (then p k) ok
+  told-then k (told {a} h) f = f a h
 
-pub told-then : {A B C D : Type 0} {d : A → C} {d′ : B → D} {p : Parsed A} {v : C} {w : D} {m e : ℕ} {ok : Bool} (k : A → ℕ → Parsed B)
-    → Told d v m p true → ((a : A) → v ≡ d a → Told d′ w e (k a m) ok) → Told d′ w e (then p k) ok
-told-then k (told {a} q) f = f a q
+  pub told-stop : {p : Parsed A} {m e : ℕ} (k : A → ℕ → Parsed B) → Told P m p false → Told Q e (then p k) false
+  told-stop k refused = refused
 
-pub told-stop : {A B C D : Type 0} {d : A → C} {d′ : B → D} {p : Parsed A} {v : C} {w : D} {m e : ℕ} (k : A → ℕ → Parsed B) → Told d v m p false → Told d′ w e (then p k) false
-told-stop k refused = refused
+  pub told-last : {p : Parsed A} {e : ℕ} {ok : Bool} (g : A → B) → Told P e p ok → ((a : A) → P a → Q (g a))
+      → Told Q e (then p (λ a e. some (g a) e)) ok
+  told-last g refused f = refused
+  told-last g (told {a} h) f = told (f a h)
 
-pub told-last : {A B C D : Type 0} {d : A → C} {d′ : B → D} {p : Parsed A} {v : C} {w : D} {e : ℕ} {ok : Bool} (g : A → B)
-    → Told d v e p ok → ((a : A) → v ≡ d a → w ≡ d′ (g a)) → Told d′ w e (then p (λ a e. some (g a) e)) ok
-told-last g refused f = refused
-told-last g (told {a} q) f = told (f a q)
-
-module _ {A B : Type 0} {d : A → B} {v : B} {e : ℕ} where
-  pub told-when : {p : Parsed A} {ok : Bool} (b : Bool) → b ≡ true → Told d v e p ok → Told d v e (when b p) ok
+module _ {A : Type 0} {P : A → Type 0} {e : ℕ} where
+  pub told-when : {p : Parsed A} {ok : Bool} (b : Bool) → b ≡ true → Told P e p ok → Told P e (when b p) ok
   told-when b h t = rw h t
 
-  pub told-unless : (p : Parsed A) (b : Bool) → b ≡ false → Told d v e (when b p) false
+  pub told-unless : (p : Parsed A) (b : Bool) → b ≡ false → Told P e (when b p) false
   told-unless p b h = rw h refused
 
 -- what is told of one reading may be said in other words; two things told of one reading go together
-pub told-map : {A B C : Type 0} {d : A → B} {c : A → C} {p : Parsed A} {v : B} {w : C} {e : ℕ} {ok : Bool}
-    → Told d v e p ok → ((a : A) → v ≡ d a → w ≡ c a) → Told c w e p ok
+pub told-map : {A : Type 0} {P Q : A → Type 0} {p : Parsed A} {e : ℕ} {ok : Bool} → Told P e p ok
+    → ((a : A) → P a → Q a) → Told Q e p ok
 told-map refused f = refused
-told-map (told {a} q) f = told (f a q)
+told-map (told {a} h) f = told (f a h)
 
-pub told-no : {A B C : Type 0} {d : A → B} {c : A → C} {p : Parsed A} {v : B} {w : C} {e m : ℕ}
-    → Told d v e p false → Told c w m p false
-told-no refused = refused
+pub told-both : {A : Type 0} {P Q : A → Type 0} {p : Parsed A} {e m : ℕ} {ok yes : Bool} → Told P e p ok
+    → Told Q m p yes → Told (λ a. P a × Q a) e p ok
+told-both refused refused = refused
+told-both (told h) (told g) = told (h, g)
 
-pub told-both : {A B C D : Type 0} {b : A → B} {c : A → C} {d : A → D} {p : Parsed A} {v : B} {w : C} {z : D} {e m : ℕ} {ok : Bool}
-    → Told b v e p true → Told c w m p ok → ((a : A) → v ≡ b a → w ≡ c a → z ≡ d a) → Told d z e p true
-told-both (told {a} q) (told r) f = told (f a q r)
+-- where something was read for sure
+pub told-read : {A : Type 0} {P : A → Type 0} {a : A} {e m : ℕ} {ok : Bool} → Told P e (some a m) ok → P a
+told-read (told h) = h
 
 -- ---- a whole body
-pub told-ends : {A B : Type 0} {d : A → B} {p : Parsed A} {v : B} {e : ℕ} {ok : Bool} (z : ℕ) → Told d v e p ok → ok && eqb e z ≡ ends z p
+pub told-ends : {A : Type 0} {P : A → Type 0} {p : Parsed A} {e : ℕ} {ok : Bool} (z : ℕ) → Told P e p ok
+    → ok && eqb e z ≡ ends z p
 told-ends z refused = refl
-told-ends z (told q) = refl
+told-ends z (told h) = refl
 
-pub told-found : {d : Formula → Bool} {p : Parsed Formula} {v : Bool} {e : ℕ} → Told d v e p true → v ≡ d (found p)
-told-found (told q) = q
+pub told-found : {P : Formula → Type 0} {p : Parsed Formula} {e : ℕ} → Told P e p true → P (found p)
+told-found (told h) = h
 
-pub told-lost : {B : Type 0} {d : Formula → B} {p : Parsed Formula} {v : B} {e : ℕ} → Told d v e p false → found p ≡ constant false
+pub told-lost : {P : Formula → Type 0} {p : Parsed Formula} {e : ℕ} → Told P e p false → found p ≡ constant false
 told-lost refused = refl
 
+-- ---- within a limit
+module _ {A B : Type 0} {P : A → Type 0} {Q : B → Type 0} {limit size : ℕ} where
+  pub within-last : {p : Parsed A} {e : ℕ} {ok : Bool} (g : A → B) → ToldWithin limit size P e p ok
+      → ((a : A) → P a → Q (g a)) → ToldWithin limit size Q e (then p (λ a e. some (g a) e)) ok
+  within-last g (within t) f = within (told-last g t f)
+  within-last g (past x y) f = past x y
+
+  pub within-then : {p : Parsed A} {low m e : ℕ} {ok : Bool} (k : A → ℕ → Parsed B) → ToldWithin low size P m p true
+      → ((a : A) → P a → ToldWithin limit size Q e (k a m) ok) → ToldWithin limit size Q e (then p k) ok
+  within-then k (within (told {a} h)) f = f a h
+
+  pub within-stop : {p : Parsed A} {low m e : ℕ} (k : A → ℕ → Parsed B) → ToldWithin low size P m p false
+      → ((a : A) (j : ℕ) → low < j → ToldWithin limit size Q e (k a j) false) → ToldWithin limit size Q e (then p k) false
+  within-stop k (within refused) f = within refused
+  within-stop k (past {a} {m} x y) f = f a m y
+
+pub within-map : {A : Type 0} {P Q : A → Type 0} {p : Parsed A} {limit size e : ℕ} {ok : Bool} → ToldWithin limit size P e p ok
+    → ((a : A) → P a → Q a) → ToldWithin limit size Q e p ok
+within-map (within t) f = within (told-map t f)
+within-map (past x y) f = past x y
+
+-- of what was not read all may be said
+pub within-lost : {A : Type 0} {P Q : A → Type 0} {p : Parsed A} {limit size e m : ℕ} → ToldWithin limit size P e p false
+    → ToldWithin limit size Q m p false
+within-lost (within refused) = within refused
+within-lost (past x y) = past x y
+
+module _ {A : Type 0} {P : A → Type 0} {limit size e : ℕ} where
+  pub within-when : {p : Parsed A} {ok : Bool} (b : Bool) → b ≡ true → ToldWithin limit size P e p ok
+      → ToldWithin limit size P e (when b p) ok
+  within-when b h t = rw h t
+
+  -- with no limit before the end all is told
+  pub told-whole : {p : Parsed A} {ok : Bool} → size ≤ limit → ToldWithin limit size P e p ok → Told P e p ok
+  told-whole h (within t) = t
+  told-whole h (past x y) = absurd (omega arith)
+
 -- where there is a byte, the decoder is one step deep
-pub deep : (s : List ℕ) (at : ℕ) (P : ℕ → Type 0) (n : ℕ) → length s ≤ n + at → at < length s → ((m : ℕ) → length s ≤ m + (at + 1) → P (suc m)) → P n
+pub deep : (s : List ℕ) (at : ℕ) (P : ℕ → Type 0) (n : ℕ) → length s ≤ n + at → at < length s
+    → ((m : ℕ) → length s ≤ m + (at + 1) → P (suc m)) → P n
 deep s at P zero l i f = absurd (omega arith)
 deep s at P (suc m) l i f = f m (omega arith)

@@ -1,21 +1,18 @@
 -- What the contracts of the formula reader's inner functions say; no word of the documents is defined here.
--- `Told` is two-sided: whether something was read, and where it was, where it ends and what v is of it.
+-- `Told` is two-sided: whether something was read, and where it was, where it ends and what holds of it.
 use Prim.Native.Nat.{ℕ, zero, suc, _+_, _-_, _*_, _≤_, _<_, min}
-use mathlib.Core.Path.{_≡_}
-use mathlib.Core.Bool.{Bool, true, false, _&&_, cond}
+use mathlib.Core.Bool.{Bool, true, false, cond}
 use mathlib.Core.List.{List, [], _∷_}
 use lib.Dec.{ltb}
 use lib.ListN.{length, getD}
-use Rattle.meaning.specs.Ranges.{term-range, arguments-fit, fits}
+use Rattle.meaning.specs.Formulas.{Term, Formula}
 use Rattle.formulas.specs.declared.Equation.{Equation}
-use Rattle.formulas.specs.declared.Tuple.{Tuple}
 use Rattle.formulas.specs.declared.Kind.{Kind}
 use Rattle.formulas.specs.declared.Kind.the-variants.{NoFormula, Constant, Join, Quantifier, Compare}
 use Rattle.formulas.specs.declared.Kind.the-variants.{Instance}
 use Rattle.formulas.specs.declared.TermKind.{TermKind}
 use Rattle.formulas.specs.declared.TermKind.the-variants.{NoTerm, Number, Variable, Calculation}
 use Rattle.formulas.specs.declared.Test.the-variants.{Equal, Less, Unequal, NotLess}
-use Rattle.formulas.specs.Tuples.{items}
 use Rattle.formulas.specs.Decode.{Parsed, none, some, term-at, terms-at, formula-at}
 use Rattle.formulas.specs.Shapes.{instance-at}
 
@@ -56,40 +53,30 @@ abbrev pub signatures-in : List ℕ → List (List ℕ)
 signatures-in table = signatures-from table 0 (getD table 40 0)
 
 -- ---- what is told
-pub data Told {A B : Type 0} (d : A → B) (v : B) (e : ℕ) : Parsed A → Bool → Type 0 where
-  refused : Told d v e none false
-  told : {a : A} → v ≡ d a → Told d v e (some a e) true
+-- whether something was read; where it was, it ends at e and P holds of it
+pub data Told {A : Type 0} (P : A → Type 0) (e : ℕ) : Parsed A → Bool → Type 0 where
+  refused : Told P e none false
+  told : {a : A} → P a → Told P e (some a e) true
 
 -- n is deep enough: as many as the bytes that are left
-pub record TermTold (s : List ℕ) (scope : Tuple) (at : ℕ) (ok : Bool) (v e : ℕ) : Type 0 where
-  pub on : at ≤ e
-  pub tells : (n : ℕ) → length s ≤ n + at
-      → Told (λ t. term-range t (items scope)) v e (term-at n s (scope .count) at) ok
+pub record TermTold (P : Term → Type 0) (s : List ℕ) (k at : ℕ) (ok : Bool) (e : ℕ) : Type 0 where
+  pub tells : (n : ℕ) → length s ≤ n + at → Told P e (term-at n s k at) ok
 
--- c terms, as arguments for the parameters with the ranges ps; `before`: whether all before them fits
-pub record ArgumentsTold (before : Bool) (ps : List ℕ) (c : ℕ) (s : List ℕ) (scope : Tuple) (at : ℕ)
-    (ok v : Bool) (e : ℕ) : Type 0 where
-  pub on : at ≤ e
-  pub tells : (n : ℕ) → length s ≤ n + at
-      → Told (λ ts. before && arguments-fit ts ps (items scope)) v e (terms-at n c s (scope .count) at) ok
+-- c terms in a row
+pub record TermsTold (P : List Term → Type 0) (c : ℕ) (s : List ℕ) (k at : ℕ) (ok : Bool) (e : ℕ) : Type 0
+  where
+    pub tells : (n : ℕ) → length s ≤ n + at → Told P e (terms-at n c s k at) ok
 
 -- the instance whose equation stands at `at`
-pub record InstanceTold (signatures : List (List ℕ)) (s : List ℕ) (scope : Tuple) (at : ℕ) (ok v : Bool)
-    (e : ℕ) : Type 0 where
-  pub on : at ≤ e
-  pub tells : (n : ℕ) → length s ≤ n + at
-      → Told (λ f. fits signatures f (items scope)) v e (instance-at n s (scope .count) at) ok
+pub record InstanceTold (P : Formula → Type 0) (s : List ℕ) (k at : ℕ) (ok : Bool) (e : ℕ) : Type 0 where
+  pub tells : (n : ℕ) → length s ≤ n + at → Told P e (instance-at n s k at) ok
 
 -- what is told where more must come after what is read: what ends past the limit may be refused. Where
 -- nothing must come, the limit is the end of all bytes, whose number is `size`, and nothing read is refused
-pub data ToldWithin {A B : Type 0} (limit size : ℕ) (d : A → B) (v : B) (e : ℕ)
-    : Parsed A → Bool → Type 0 where
-  within : {p : Parsed A} {ok : Bool} → Told d v e p ok → ToldWithin limit size d v e p ok
-  past : {a : A} {m : ℕ} → limit < size → limit < m → ToldWithin limit size d v e (some a m) false
+pub data ToldWithin {A : Type 0} (limit size : ℕ) (P : A → Type 0) (e : ℕ) : Parsed A → Bool → Type 0 where
+  within : {p : Parsed A} {ok : Bool} → Told P e p ok → ToldWithin limit size P e p ok
+  past : {a : A} {m : ℕ} → limit < size → limit < m → ToldWithin limit size P e (some a m) false
 
-pub record FormulaTold (signatures : List (List ℕ)) (s : List ℕ) (limit : ℕ) (scope : Tuple) (q at : ℕ)
-    (ok v : Bool) (e : ℕ) : Type 0 where
-  pub on : at ≤ e
-  pub tells : (n : ℕ) → length s ≤ n + at
-      → ToldWithin limit (length s) (λ f. fits signatures f (items scope)) v e
-      (formula-at n s (scope .count) q at) ok
+pub record FormulaTold (P : Formula → Type 0) (s : List ℕ) (limit k q at : ℕ) (ok : Bool) (e : ℕ) : Type 0
+  where
+    pub tells : (n : ℕ) → length s ≤ n + at → ToldWithin limit (length s) P e (formula-at n s k q at) ok

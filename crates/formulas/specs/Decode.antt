@@ -21,11 +21,6 @@ pub data Parsed (A : Type 0) : Type 0 where
   -- what was read, and the place after it
   some : A → ℕ → Parsed A
 
--- of something that was read it is known where it ends, and that P holds of it
-pub data Reads {A : Type 0} (P : A → Type 0) (e : ℕ) : Parsed A → Type 0 where
-  nothing : Reads P e none
-  read : {a : A} → P a → Reads P e (some a e)
-
 -- go on after what was read
 abbrev pub then : {A B : Type 0} → Parsed A → (A → ℕ → Parsed B) → Parsed B
 then none k = none

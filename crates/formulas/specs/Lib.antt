@@ -1,6 +1,5 @@
 pub mod Codes
 pub mod Decode
-pub mod Reads
 pub mod Shapes
 pub mod Bodies
 pub mod Tuples

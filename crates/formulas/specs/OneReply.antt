@@ -13,7 +13,7 @@ use Rattle.formulas.specs.declared.TermKind.{TermKind}
 use Rattle.formulas.specs.declared.Tuple.{Tuple}
 use Rattle.formulas.specs.Codes.{kind-of, term-kind-of, operands-of}
 use Rattle.formulas.specs.Tuples.{items, pushed}
-use Rattle.formulas.specs.Bodies.{is-body, is-fitting}
+use Rattle.formulas.specs.Bodies.{ranges-of, signatures-of, is-body, is-fitting}
 
 pub one-kind-of : (code : ℕ) {r s : Kind} → r ≡ kind-of code → s ≡ kind-of code → r ≡ s
 one-kind-of code = one-reply
@@ -40,10 +40,11 @@ one-item tuple i = one-reply
 pub one-is-range : (r : ℕ) {b c : Bool} → b ≡ is-range r → c ≡ is-range r → b ≡ c
 one-is-range r = one-reply
 
-pub one-is-body : (text : List ℕ) (e : Equation) {r s : Bool}
-    → r ≡ is-body text e → s ≡ is-body text e → r ≡ s
-one-is-body text e = one-reply
+pub one-is-body : (body : List ℕ) (e : Equation) {r s : Bool}
+    → r ≡ is-body body (ranges-of e) → s ≡ is-body body (ranges-of e) → r ≡ s
+one-is-body body e = one-reply
 
-pub one-is-fitting : (text : List ℕ) (e : Equation) (equations : List Equation) (count : ℕ) {r s : Bool}
-    → r ≡ is-fitting equations count text e → s ≡ is-fitting equations count text e → r ≡ s
-one-is-fitting text e equations count = one-reply
+pub one-is-fitting : (body : List ℕ) (e : Equation) (equations : List Equation) (count : ℕ) {r s : Bool}
+    → r ≡ is-fitting (signatures-of equations count) body (ranges-of e)
+    → s ≡ is-fitting (signatures-of equations count) body (ranges-of e) → r ≡ s
+one-is-fitting body e equations count = one-reply

@@ -7,18 +7,21 @@ use mathlib.Core.Bool.{Bool, true, false, cond, _&&_}
 use mathlib.Core.List.{List, [], _∷_}
 use lib.Dec.{T, eqb, eqb→eq, ltb, leb}
 use lib.ListN.{getD}
-use Rattle.meaning.specs.Formulas.{number, variable, calculated, Formula, constant, joined, quantified, compared, instance}
+use Rattle.meaning.specs.Formulas.{number, variable, calculated}
+use Rattle.meaning.specs.Formulas.{Formula, constant, joined, quantified, compared, instance}
 use Rattle.meaning.specs.Ranges.{is-range}
 use Rattle.formulas.specs.declared.Kind.{Kind}
-use Rattle.formulas.specs.declared.Kind.the-variants.{NoFormula, Constant, Join, Quantifier, Compare, Instance}
+use Rattle.formulas.specs.declared.Kind.the-variants.{NoFormula, Constant, Join}
+use Rattle.formulas.specs.declared.Kind.the-variants.{Quantifier, Compare, Instance}
 use Rattle.formulas.specs.declared.TermKind.{TermKind}
 use Rattle.formulas.specs.declared.TermKind.the-variants.{NoTerm, Number, Variable, Calculation}
 use Rattle.formulas.specs.declared.Test.{Test}
 use Rattle.formulas.specs.Codes.{Row, rows, no-row, row-of, kind-of, term-kind-of, operands-of}
-use Rattle.formulas.specs.Decode.{Parsed, none, some, then, when, in-row, test-of, term-of-kind, term-at, terms-at, formula-of-kind, formula-at}
+use Rattle.formulas.specs.Decode.{Parsed, none, some, then, when, in-row, nth-term, test-of}
+use Rattle.formulas.specs.Decode.{term-of-kind, term-at, terms-at, formula-of-kind, formula-at}
 
 -- ---- how many operands a code has, by its kind
-abbrev formula-counts : Kind → ℕ → Bool
+abbrev pub formula-counts : Kind → ℕ → Bool
 formula-counts NoFormula n = true
 formula-counts (Constant b) n = eqb n 0
 formula-counts (Join all) n = eqb n 2
@@ -26,7 +29,7 @@ formula-counts (Quantifier all) n = eqb n 2
 formula-counts (Compare t) n = eqb n 2
 formula-counts Instance n = eqb n 2
 
-abbrev term-counts : TermKind → ℕ → Bool
+abbrev pub term-counts : TermKind → ℕ → Bool
 term-counts NoTerm n = true
 term-counts Number n = eqb n 1
 term-counts Variable n = eqb n 1
@@ -60,36 +63,21 @@ counts : (code : ℕ) → T (row-counts (row-of code))
 unfolding row-of
 counts code = chosen (leb 0x10 code) (getD rows (code - 0x10) no-row) (one-counts rows (code - 0x10) tt)
 
-module _ (code : ℕ) where
-  formula-count : (kind : Kind) → kind-of code ≡ kind → T (formula-counts kind (operands-of code))
-  formula-count kind h = rw h at (left (formula-counts (kind-of code) (operands-of code)) (term-counts (term-kind-of code) (operands-of code)) (counts code))
+-- `refl` is the last argument where the kind is known
+module _ (code n : ℕ) where
+  pub formula-operands : {kind : Kind} → kind-of code ≡ kind →
+      formula-counts kind (operands-of code) ≡ eqb (operands-of code) n → operands-of code ≡ n
+  formula-operands {kind} h e =
+      let f = formula-counts (kind-of code) (operands-of code) in
+      let t = term-counts (term-kind-of code) (operands-of code) in
+      eqb→eq (operands-of code) n (rw (h, e) at (left f t (counts code)))
 
-  term-count : (kind : TermKind) → term-kind-of code ≡ kind → T (term-counts kind (operands-of code))
-  term-count kind h = rw h at (right (formula-counts (kind-of code) (operands-of code)) (term-counts (term-kind-of code) (operands-of code)) (counts code))
-
-  pub operands-constant : (b : Bool) → kind-of code ≡ Constant b → operands-of code ≡ 0
-  operands-constant b h = eqb→eq (operands-of code) 0 (formula-count (Constant b) h)
-
-  pub operands-join : (all : Bool) → kind-of code ≡ Join all → operands-of code ≡ 2
-  operands-join all h = eqb→eq (operands-of code) 2 (formula-count (Join all) h)
-
-  pub operands-quantifier : (all : Bool) → kind-of code ≡ Quantifier all → operands-of code ≡ 2
-  operands-quantifier all h = eqb→eq (operands-of code) 2 (formula-count (Quantifier all) h)
-
-  pub operands-compare : (t : Test) → kind-of code ≡ Compare t → operands-of code ≡ 2
-  operands-compare t h = eqb→eq (operands-of code) 2 (formula-count (Compare t) h)
-
-  pub operands-instance : kind-of code ≡ Instance → operands-of code ≡ 2
-  operands-instance h = eqb→eq (operands-of code) 2 (formula-count Instance h)
-
-  pub operands-number : term-kind-of code ≡ Number → operands-of code ≡ 1
-  operands-number h = eqb→eq (operands-of code) 1 (term-count Number h)
-
-  pub operands-variable : term-kind-of code ≡ Variable → operands-of code ≡ 1
-  operands-variable h = eqb→eq (operands-of code) 1 (term-count Variable h)
-
-  pub operands-calculation : (plus : Bool) → term-kind-of code ≡ Calculation plus → operands-of code ≡ 3
-  operands-calculation plus h = eqb→eq (operands-of code) 3 (term-count (Calculation plus) h)
+  pub term-operands : {kind : TermKind} → term-kind-of code ≡ kind →
+      term-counts kind (operands-of code) ≡ eqb (operands-of code) n → operands-of code ≡ n
+  term-operands {kind} h e =
+      let f = formula-counts (kind-of code) (operands-of code) in
+      let t = term-counts (term-kind-of code) (operands-of code) in
+      eqb→eq (operands-of code) n (rw (h, e) at (right f t (counts code)))
 
 -- byte 0, which is what stands past the end, is no code
 pub no-kind : kind-of 0 ≡ NoFormula
@@ -102,31 +90,38 @@ no-term-kind = refl
 
 -- ---- one and two operands in a row
 module _ {A B : Type 0} (one : ℕ → Parsed A) (d : A) where
-  one-read : (g : A → B) (p : Parsed A) → then (then p (λ a m. then (some [] m) (λ rest e. some (a ∷ rest) e))) (λ l e. some (g (getD l 0 d)) e) ≡ then p (λ a e. some (g a) e)
-  one-read g none = refl
-  one-read g (some a e) = refl
+  module _ (g : A → B) where
+    one-read : (p : Parsed A)
+        → then (then p (λ a m. then (some [] m) (λ rest e. some (a ∷ rest) e)))
+        (λ l e. some (g (getD l 0 d)) e) ≡ then p (λ a e. some (g a) e)
+    one-read none = refl
+    one-read (some a e) = refl
 
-  pub one-in-row : (g : A → B) (at : ℕ) → then (in-row one 1 at) (λ l e. some (g (getD l 0 d)) e)
-      ≡ then (one at) (λ a e. some (g a) e)
-  unfolding in-row
-  one-in-row g at = one-read g (one at)
+    pub one-in-row : (at : ℕ)
+        → then (in-row one 1 at) (λ l e. some (g (getD l 0 d)) e) ≡ then (one at) (λ a e. some (g a) e)
+    unfolding in-row
+    one-in-row at = one-read (one at)
 
-  second-read : (g : A → A → B) (a : A) (p : Parsed A)
-      → then (then (then p (λ b m. then (some [] m) (λ rest e. some (b ∷ rest) e))) (λ rest e. some (a ∷ rest) e)) (λ l e. some (g (getD l 0 d) (getD l 1 d)) e)
-      ≡ then p (λ b e. some (g a b) e)
-  second-read g a none = refl
-  second-read g a (some b e) = refl
+  module _ (g : A → A → B) where
+    second-read : (a : A) (p : Parsed A)
+        → then (then (then p (λ b m. then (some [] m) (λ rest e. some (b ∷ rest) e)))
+        (λ rest e. some (a ∷ rest) e)) (λ l e. some (g (getD l 0 d) (getD l 1 d)) e)
+        ≡ then p (λ b e. some (g a b) e)
+    second-read a none = refl
+    second-read a (some b e) = refl
 
-  first-read : (g : A → A → B) (p : Parsed A) → then (then p (λ a m. then (in-row one 1 m) (λ rest e. some (a ∷ rest) e))) (λ l e. some (g (getD l 0 d) (getD l 1 d)) e)
-      ≡ then p (λ a m. then (one m) (λ b e. some (g a b) e))
-  unfolding in-row
-  first-read g none = refl
-  first-read g (some a m) = second-read g a (one m)
+    first-read : (p : Parsed A)
+        → then (then p (λ a m. then (in-row one 1 m) (λ rest e. some (a ∷ rest) e)))
+        (λ l e. some (g (getD l 0 d) (getD l 1 d)) e)
+        ≡ then p (λ a m. then (one m) (λ b e. some (g a b) e))
+    unfolding in-row
+    first-read none = refl
+    first-read (some a m) = second-read a (one m)
 
-  pub two-in-row : (g : A → A → B) (at : ℕ) → then (in-row one 2 at) (λ l e. some (g (getD l 0 d) (getD l 1 d)) e)
-      ≡ then (one at) (λ a m. then (one m) (λ b e. some (g a b) e))
-  unfolding in-row
-  two-in-row g at = first-read g (one at)
+    pub two-in-row : (at : ℕ) → then (in-row one 2 at) (λ l e. some (g (getD l 0 d) (getD l 1 d)) e)
+        ≡ then (one at) (λ a m. then (one m) (λ b e. some (g a b) e))
+    unfolding in-row
+    two-in-row at = first-read (one at)
 
 -- ---- terms
 module _ (n : ℕ) (s : List ℕ) (k at : ℕ) where
@@ -135,26 +130,24 @@ module _ (n : ℕ) (s : List ℕ) (k at : ℕ) where
   shape-no-term h = rw h refl
 
   pub shape-number : term-kind-of (getD s at 0) ≡ Number
-      → term-at (suc n) s k at ≡ when (leb (getD s (at + 1) 0) 15) (some (number (getD s (at + 1) 0)) (at + 2))
+      → term-at (suc n) s k at
+      ≡ when (leb (getD s (at + 1) 0) 15) (some (number (getD s (at + 1) 0)) (at + 2))
   unfolding term-at term-of-kind
-  shape-number h = rw (h, operands-number (getD s at 0) h) refl
+  shape-number h = rw (h, term-operands (getD s at 0) 1 h refl) refl
 
   pub shape-variable : term-kind-of (getD s at 0) ≡ Variable
-      → term-at (suc n) s k at ≡ when (ltb (getD s (at + 1) 0) k) (some (variable (getD s (at + 1) 0)) (at + 2))
+      → term-at (suc n) s k at
+      ≡ when (ltb (getD s (at + 1) 0) k) (some (variable (getD s (at + 1) 0)) (at + 2))
   unfolding term-at term-of-kind
-  shape-variable h = rw (h, operands-variable (getD s at 0) h) refl
+  shape-variable h = rw (h, term-operands (getD s at 0) 1 h refl) refl
 
   pub shape-calculation : (plus : Bool) → term-kind-of (getD s at 0) ≡ Calculation plus
-      → term-at (suc n) s k at ≡ when (is-range (getD s (at + 1) 0))
-      (then (term-at n s k (at + 2)) (λ a m. then (term-at n s k m) (λ b e. some (calculated plus (getD s (at + 1) 0) a b) e)))
+      → term-at (suc n) s k at ≡ when (is-range (getD s (at + 1) 0)) (then (terms-at n 2 s k (at + 2))
+      (λ ts e. some (calculated plus (getD s (at + 1) 0) (nth-term ts 0) (nth-term ts 1)) e))
   unfolding term-at term-of-kind
-  shape-calculation plus h =
-      rw (h, operands-calculation (getD s at 0) plus h, two-in-row (term-at n s k) (number 0) (calculated plus (getD s (at + 1) 0)) (at + 2)) refl
+  shape-calculation plus h = rw (h, term-operands (getD s at 0) 3 h refl) refl
 
--- ---- formulas: a test's two terms, from `at`; an instance's equation, its number of arguments and these, from `at`
-abbrev pub compared-at : ℕ → Test → List ℕ → ℕ → ℕ → Parsed Formula
-compared-at n t s k at = then (term-at n s k at) (λ a m. then (term-at n s k m) (λ b e. some (compared (test-of t) a b) e))
-
+-- ---- formulas; an instance's equation, its number of arguments and these stand from `at` on
 abbrev pub instance-at : ℕ → List ℕ → ℕ → ℕ → Parsed Formula
 instance-at n s k at =
     when (leb (getD s (at + 1) 0) 4)
@@ -168,26 +161,30 @@ module _ (n : ℕ) (s : List ℕ) (k q at : ℕ) where
   pub shape-constant : (b : Bool) → kind-of (getD s at 0) ≡ Constant b
       → formula-at (suc n) s k q at ≡ some (constant b) (at + 1)
   unfolding formula-at formula-of-kind
-  shape-constant b h = rw (h, operands-constant (getD s at 0) b h) refl
+  shape-constant b h = rw (h, formula-operands (getD s at 0) 0 h refl) refl
 
   pub shape-join : (all : Bool) → kind-of (getD s at 0) ≡ Join all
-      → formula-at (suc n) s k q at ≡ then (formula-at n s k q (at + 1)) (λ f m. then (formula-at n s k q m) (λ g e. some (joined all f g) e))
+      → formula-at (suc n) s k q at ≡ then (formula-at n s k q (at + 1))
+      (λ f m. then (formula-at n s k q m) (λ g e. some (joined all f g) e))
   unfolding formula-at formula-of-kind
   shape-join all h =
-      rw (h, operands-join (getD s at 0) all h, two-in-row (formula-at n s k q) (constant false) (joined all) (at + 1)) refl
+      let two = two-in-row (formula-at n s k q) (constant false) (joined all) (at + 1) in
+      rw (h, formula-operands (getD s at 0) 2 h refl, two) refl
 
   pub shape-quantifier : (all : Bool) → kind-of (getD s at 0) ≡ Quantifier all
       → formula-at (suc n) s k q at ≡ when (ltb q 4) (when (is-range (getD s (at + 1) 0))
       (then (formula-at n s (k + 1) (q + 1) (at + 2)) (λ f e. some (quantified all (getD s (at + 1) 0) f) e)))
   unfolding formula-at formula-of-kind
   shape-quantifier all h =
-      rw (h, operands-quantifier (getD s at 0) all h, one-in-row (formula-at n s (k + 1) (q + 1)) (constant false) (quantified all (getD s (at + 1) 0)) (at + 2)) refl
+      let inner = formula-at n s (k + 1) (q + 1) in
+      let one = one-in-row inner (constant false) (quantified all (getD s (at + 1) 0)) (at + 2) in
+      rw (h, formula-operands (getD s at 0) 2 h refl, one) refl
 
   pub shape-compare : (t : Test) → kind-of (getD s at 0) ≡ Compare t
-      → formula-at (suc n) s k q at ≡ compared-at n t s k (at + 1)
+      → formula-at (suc n) s k q at ≡ then (terms-at n 2 s k (at + 1))
+      (λ ts e. some (compared (test-of t) (nth-term ts 0) (nth-term ts 1)) e)
   unfolding formula-at formula-of-kind
-  shape-compare t h =
-      rw (h, operands-compare (getD s at 0) t h, two-in-row (term-at n s k) (number 0) (compared (test-of t)) (at + 1)) refl
+  shape-compare t h = rw (h, formula-operands (getD s at 0) 2 h refl) refl
 
   pub shape-instance : kind-of (getD s at 0) ≡ Instance
       → formula-at (suc n) s k q at ≡ instance-at n s k (at + 1)
@@ -195,4 +192,4 @@ module _ (n : ℕ) (s : List ℕ) (k q at : ℕ) where
   shape-instance h =
       let x : at + 1 + 1 ≡ at + 2 = omega arith in
       let y : at + 1 + 2 ≡ at + 3 = omega arith in
-      rw (h, operands-instance (getD s at 0) h, x, y) refl
+      rw (h, formula-operands (getD s at 0) 2 h refl, x, y) refl

@@ -1,17 +1,17 @@
 // The reader of formulas: whether the bytes of a body are one formula, and whether the instances in it fit
 // the equations.
-ghost use mathlib.Core.Bool.{true, false};
+ghost use mathlib.Core.Bool.{true, false, _&&_};
 ghost use mathlib.Core.Path.{_≡_};
 ghost use mathlib.Core.List.{[], _∷_, _++_};
 ghost use Prim.Native.Nat.{_+_, _≤_, _<_};
 ghost use lib.ListN.{length, getD};
-ghost use Rattle.meaning.specs.Ranges.{is-range, fits};
+ghost use Rattle.meaning.specs.Ranges.{is-range, term-range, arguments-fit, fits};
 ghost use Rattle.formulas.specs.Codes.{kind-of, term-kind-of, operands-of};
 ghost use Rattle.formulas.specs.Tuples.{items, pushed};
 ghost use Rattle.formulas.specs.Bodies.{ranges-of, signatures-of, body-at, is-body, is-fitting};
 ghost use Rattle.formulas.specs.Contract.{kind-numbered, term-kind-numbered};
 ghost use Rattle.formulas.specs.Contract.{part, signature-byte, signatures-in};
-ghost use Rattle.formulas.specs.Contract.{Told, TermTold, ArgumentsTold, InstanceTold, FormulaTold};
+ghost use Rattle.formulas.specs.Contract.{Told, TermTold, TermsTold, InstanceTold, FormulaTold};
 
 // An equation's record. Absent ranges are 1; `place` is that of the body's first digit in the text, `length`
 // the body's in bytes.
@@ -189,13 +189,13 @@ pub fn is_range(r: u8) -> bool
 }
 
 fn term_result(ok: bool, range: u8, next: usize) -> TermSpan
-    ensures { λ r. ⌜ (r .ok ≡ ok) × ((r .range ≡ range) × (r .next ≡ next)) ⌝ }
+    ensures { λ r. ⌜ r ≡ record { ok = ok; range = range; next = next } ⌝ }
 {
     TermSpan { ok, range, next }
 }
 
 fn result(ok: bool, fits: bool, next: usize) -> Span
-    ensures { λ r. ⌜ (r .ok ≡ ok) × ((r .fits ≡ fits) × (r .next ≡ next)) ⌝ }
+    ensures { λ r. ⌜ r ≡ record { ok = ok; fits = fits; next = next } ⌝ }
 {
     Span { ok, fits, next }
 }
@@ -203,7 +203,8 @@ fn result(ok: bool, fits: bool, next: usize) -> Span
 // The term at `at` of a body.
 fn read_term(body: &[u8], at: usize, scope: Tuple) -> TermSpan
     requires { ⌜ length (now body) ≤ 256 ⌝ }
-    ensures { λ r. ⌜ TermTold (now (body .entry)) scope at (r .ok) (r .range) (r .next) ⌝ }
+    ensures { λ r. ⌜ TermTold (λ t. r .range ≡ term-range t (items scope)) (now (body .entry)) (scope .count)
+        at (r .ok) (r .next) ⌝ }
 {
     if body.len() <= at {
         return term_result(false, 0, at);
@@ -253,8 +254,9 @@ fn read_arguments(
     fits: bool,
 ) -> Span
     requires { ⌜ (length (now body) ≤ 256) × (j + c ≤ 1279) ⌝ }
-    ensures { λ r. ⌜ ArgumentsTold fits (part (now (signatures .entry)) j c) c (now (body .entry)) scope at
-        (r .ok) (r .fits) (r .next) ⌝ }
+    ensures { λ r. ⌜ TermsTold
+        (λ ts. r .fits ≡ fits && arguments-fit ts (part (now (signatures .entry)) j c) (items scope)) c
+        (now (body .entry)) (scope .count) at (r .ok) (r .next) ⌝ }
 {
     if c == 0 {
         return result(true, fits, at);
@@ -279,8 +281,9 @@ fn read_arguments(
 // The instance whose equation and number of arguments stand at `at` and whose arguments start at `first`.
 fn read_instance(body: &[u8], at: usize, first: usize, scope: Tuple, signatures: &[u8; 41]) -> Span
     requires { ⌜ (length (now body) ≤ 256) × ((at ≤ length (now body)) × (first ≡ at + 2)) ⌝ }
-    ensures { λ r. ⌜ InstanceTold (signatures-in (now (signatures .entry))) (now (body .entry)) scope at
-        (r .ok) (r .fits) (r .next) ⌝ }
+    ensures { λ r. ⌜ InstanceTold
+        (λ f. r .fits ≡ fits (signatures-in (now (signatures .entry))) f (items scope)) (now (body .entry))
+        (scope .count) at (r .ok) (r .next) ⌝ }
 {
     let x = basics::wide(basics::element(body, at));
     let c = basics::element(body, at + 1);
@@ -306,8 +309,9 @@ fn read_formula(
 ) -> Span
     requires { ⌜ (length (now body) ≤ 256) × ((limit ≤ length (now body)) ×
         ((scope .count ≤ 4 + q) × (q ≤ 4))) ⌝ }
-    ensures { λ r. ⌜ FormulaTold (signatures-in (now (signatures .entry))) (now (body .entry)) limit scope q
-        at (r .ok) (r .fits) (r .next) ⌝ }
+    ensures { λ r. ⌜ FormulaTold
+        (λ f. r .fits ≡ fits (signatures-in (now (signatures .entry))) f (items scope)) (now (body .entry))
+        limit (scope .count) q at (r .ok) (r .next) ⌝ }
 {
     if limit <= at {
         return result(false, false, at);
@@ -388,34 +392,33 @@ fn signatures_of(equations: [Equation; 8], count: usize) -> [u8; 41]
     table
 }
 
-// What stands in the body of e.
-fn read_body(text: &[u8], e: Equation, equations: [Equation; 8], count: usize) -> Span
-    ensures { λ r. ⌜ Told (λ f. fits (signatures-of equations count) f (ranges-of e)) (r .fits) (r .next)
-        (body-at (now (text .entry)) e) (r .ok) ⌝ }
+// What stands in a body of e.
+fn read_body(body: &[u8], e: Equation, equations: [Equation; 8], count: usize) -> Span
+    ensures { λ r. ⌜ Told (λ f. r .fits ≡ fits (signatures-of equations count) f (ranges-of e)) (r .next)
+        (body-at (now (body .entry)) (ranges-of e)) (r .ok) ⌝ }
 {
-    let size = e.length;
+    let size = body.len();
     if 256 < size {
         return result(false, false, 0);
     }
-    let body = digits::bytes_at(text, e.place, size);
     let signatures = signatures_of(equations, count);
-    read_formula(&body[..size], 0, size, parameters_of(e), 0, &signatures)
+    read_formula(body, 0, size, parameters_of(e), 0, &signatures)
 }
 
-// Whether the body of e is one formula.
-pub fn is_body(text: &[u8], e: Equation) -> bool
-    ensures { λ r. ⌜ r ≡ is-body (now (text .entry)) e ⌝ }
+// Whether some bytes, as a body of e, are one formula.
+pub fn is_body(body: &[u8], e: Equation) -> bool
+    ensures { λ r. ⌜ r ≡ is-body (now (body .entry)) (ranges-of e) ⌝ }
 {
-    let a = read_body(text, e, [e; 8], 0);
-    let size = e.length;
+    let size = body.len();
+    let a = read_body(body, e, [e; 8], 0);
     let m = a.next;
     basics::and(a.ok, m == size)
 }
 
-// Whether the instances in the body of e fit the first `count` of the equations.
-pub fn is_fitting(text: &[u8], e: Equation, equations: [Equation; 8], count: usize) -> bool
-    ensures { λ r. ⌜ r ≡ is-fitting equations count (now (text .entry)) e ⌝ }
+// Whether the instances in a body of e fit the first `count` of the equations.
+pub fn is_fitting(body: &[u8], e: Equation, equations: [Equation; 8], count: usize) -> bool
+    ensures { λ r. ⌜ r ≡ is-fitting (signatures-of equations count) (now (body .entry)) (ranges-of e) ⌝ }
 {
-    let a = read_body(text, e, equations, count);
+    let a = read_body(body, e, equations, count);
     if a.ok { a.fits } else { true }
 }

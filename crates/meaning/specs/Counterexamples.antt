@@ -8,15 +8,17 @@ use Rattle.meaning.specs.Logic.{_and_, _or_, _⇒_, join}
 use Rattle.meaning.specs.Solution.{same, mem, all, every, some, least, greatest, solution}
 use Rattle.meaning.specs.Formulas.{number, variable, equal, less, joined, compared, instance}
 use Rattle.meaning.specs.Formulas.{Formula, value, holds}
-use Rattle.meaning.specs.Models.{ModelEquation, Model, spread, in-range, system, meaning}
-use Rattle.meaning.specs.Reach.{join-simplified, simplified, instances, body-of, next, fresh, explore}
+use Rattle.meaning.specs.Models.{ModelEquation, model-equation, Model}
+use Rattle.meaning.specs.Models.{spread, in-range, system, meaning}
+use Rattle.meaning.specs.Simplification.{join-simplified, simplified}
+use Rattle.meaning.specs.Reach.{leaves, instances, body-of, next, fresh, explore}
 use Rattle.meaning.specs.Reach.{every-instance, reached}
 
 abbrev least-equation : List ℕ → Formula → ModelEquation
-least-equation ranges f = record { greatest = false; ranges = ranges; body = f }
+least-equation = model-equation false
 
 abbrev greatest-equation : List ℕ → Formula → ModelEquation
-greatest-equation ranges f = record { greatest = true; ranges = ranges; body = f }
+greatest-equation = model-equation true
 
 -- 1. "Grouping equations by sign, or solving all together by one kind of iteration": a least and a greatest
 -- equation, each the other's right side. The first decides: both are false, and true where they change places
@@ -51,7 +53,7 @@ removed =
     greatest-equation [] (instance 1 []) ∷ []
 
 pub removed-not-reached : reached removed (0 ∷ []) ≡ (0 ∷ []) ∷ []
-unfolding reached every-instance in-range spread explore fresh next body-of instances simplified
+unfolding reached every-instance in-range spread explore fresh next body-of instances leaves simplified
     join-simplified value mem same _and_ _or_
 removed-not-reached = refl
 

@@ -12,45 +12,49 @@ use lib.Seq.{sets-eq, take-all, take-length, take-append-seam}
 use borrow.Author.Tests.{eq-eqb, eqb-true, eqb-false, leb-true, le-leb, lt-leb}
 use Rattle.meaning.specs.Reached.{reached-typed}
 use Rattle.meaning.specs.Words.{word}
-use Rattle.reading.specs.Reading.{reading}
+use Rattle.reading.specs.Reading.{text-refusal}
+use Rattle.reading.specs.Records.{reading}
 use Rattle.reading.proofs.WellFormed.{reading-well-formed}
 use Rattle.truth.specs.Bits.{bit-of}
 use Rattle.truth.specs.Words.{truth-words}
 use Rattle.truth.proofs.Words.{truth-words-bits}
 use Rattle.answers.specs.declared.Answer.{Answer}
 use Rattle.answers.specs.Answers.{the-model, the-start, list, truth-in, shown-values, refusal, verdict, judged, answer, room-of, kept-words, table-after}
-use Rattle.answers.specs.Printed.{line-of, instance-lines, verdict-frame, refusal-frame, printed, smallest-buffer, bytes-written, buffer-after}
+use Rattle.frames.specs.Frames.{line-of}
+use Rattle.answers.specs.Printed.{instance-lines, verdict-frame, refusal-frame, printed, smallest-buffer, bytes-written, buffer-after}
 use Rattle.engine.specs.declared.Examined.{Examined}
 use Rattle.printing.specs.Promise.{Written}
-use Rattle.printing.specs.Lines.{Puts, lines-of, text-of, Readable, Printable}
+use Rattle.frames.specs.PutLine.{Puts}
+use Rattle.printing.specs.Lines.{lines-of, text-of, Readable, Printable}
 use Rattle.printing.proofs.Reached.{AllTyped, readable, lines-back}
-use Rattle.printing.proofs.Stores.{line-length, lines-short}
+use Rattle.frames.specs.Written.{line-length}
+use Rattle.printing.proofs.Stores.{lines-short}
 
 -- ---- an answer with number 0 is the verdict of a text that was read and has at most 512 reached instances
 record Holds (t : List ℕ) (a : Answer) : Type 0 where
-  read : reading t .number ≡ 0
+  read : text-refusal t .number ≡ 0
   few : length (list t) ≤ 512
   is : a ≡ verdict t
 
-judged-holds : (t : List ℕ) (b : Bool) → leb (length (list t)) 512 ≡ b → reading t .number ≡ 0
+judged-holds : (t : List ℕ) (b : Bool) → leb (length (list t)) 512 ≡ b → text-refusal t .number ≡ 0
     → cond b (verdict t) (refusal 9 0) .number ≡ 0 → Holds t (cond b (verdict t) (refusal 9 0))
 judged-holds t true less read zero = record { read = read; few = leb-true _ _ less; is = refl }
 judged-holds t false less read zero = absurd (omega (arith, zero))
 
-answer-holds : (t : List ℕ) (b : Bool) → eqb (reading t .number) 0 ≡ b
-    → cond b (judged t 512) (refusal (reading t .number) (reading t .line)) .number ≡ 0 → Holds t (cond b (judged t 512) (refusal (reading t .number) (reading t .line)))
+answer-holds : (t : List ℕ) (b : Bool) → eqb (text-refusal t .number) 0 ≡ b
+    → cond b (judged t 512) (refusal (text-refusal t .number) (text-refusal t .line)) .number ≡ 0 → Holds t (cond b (judged t 512) (refusal (text-refusal t .number) (text-refusal t .line)))
 unfolding judged
 answer-holds t true read zero = judged-holds t (leb (length (list t)) 512) refl (eqb-true _ _ read) zero
 answer-holds t false read zero = absurd (eqb-false _ _ read zero)
 
 verdict-given : (t : List ℕ) → answer t 512 .number ≡ 0 → Holds t (answer t 512)
 unfolding answer
-verdict-given t zero = answer-holds t (eqb (reading t .number) 0) refl zero
+verdict-given t zero = answer-holds t (eqb (text-refusal t .number) 0) refl zero
 
 -- the table keeps its length
 table-length : (t table : List ℕ) → length (table-after t table) ≡ length table
 unfolding table-after
-table-length t table = same (eqb (reading t .number) 0)
+table-length t table = same (eqb (text-refusal t .number) 0)
   where
     kept : List ℕ
     kept = kept-words t (room-of (length table))
@@ -70,7 +74,7 @@ module _ (t : List ℕ) (e : Examined) (blank words : List ℕ) (long : length b
   unfolding verdict table-after
   first-words h =
       let all = take-all 512 (map word (list t)) (omega (arith, length-map (list t) word, h .few)) in
-      rw (is .2, h .is, eq-eqb (reading t .number) 0 (h .read), long, all, ← length-map (list t) word) (take-append-seam (map word (list t)) _)
+      rw (is .2, h .is, eq-eqb (text-refusal t .number) 0 (h .read), long, all, ← length-map (list t) word) (take-append-seam (map word (list t)) _)
 
   all-typed : (h : Holds t (e .answer)) → AllTyped t (h .read) (list t)
   unfolding list

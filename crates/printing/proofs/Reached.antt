@@ -17,16 +17,18 @@ use Rattle.meaning.specs.Words.{word}
 use Rattle.meaning.specs.WordLaws.{typed-length, word-equation, word-arguments}
 use Rattle.formulas.specs.declared.Equation.{Equation}
 use Rattle.formulas.specs.Bodies.{blank}
-use Rattle.reading.specs.Reading.{reading}
+use Rattle.reading.specs.Reading.{text-refusal}
+use Rattle.reading.specs.Records.{reading}
 use Rattle.reading.proofs.WellFormed.{reading-well-formed}
 use Rattle.truth.specs.Bits.{bit-of}
 use Rattle.answers.specs.Answers.{the-model, the-start, truth-in}
-use Rattle.answers.specs.Printed.{line-of, instance-frame, instance-lines}
+use Rattle.frames.specs.Frames.{line-of}
+use Rattle.answers.specs.Printed.{instance-frame, instance-lines}
 use Rattle.printing.specs.Lines.{parameters-of, word-frame, lines-of}
 use Rattle.printing.proofs.Heads.{parameter-count}
 
 -- ---- a text that was read: its instances and their words
-module _ (t : List ℕ) (read : reading t .number ≡ 0) where
+module _ (t : List ℕ) (read : text-refusal t .number ≡ 0) where
   abbrev pub equations : List Equation
   equations = reading t .model .equations
 
@@ -46,7 +48,7 @@ module _ (t : List ℕ) (read : reading t .number ≡ 0) where
   parameters : (e : ℕ) (x : List ℕ) → Typed (e ∷ x) → parameters-of equations (word (e ∷ x)) ≡ length x
   parameters e x h =
       ap (λ (n : ℕ). getD equations n blank .k) (word-equation (the-model t) (the-start t) sound e x h)
-      ∙ sym (typed-length (the-model t) (the-start t) sound e x h ∙ parameter-count t e (equation-there e x h))
+      ∙ sym (typed-length (the-model t) (the-start t) sound e x h ∙ parameter-count t read e (equation-there e x h))
 
   -- the frame of an instance from its word
   frame-back : (i : Instance) → Typed i → word-frame (parameters-of equations (word i)) (word i) (truth-in (the-model t) i) ≡ instance-frame (the-model t) i

@@ -1,7 +1,7 @@
--- Laws of a run of stores, and of the lengths of lines.
--- A run is cut where one part of it ends: the rest is stored from there on.
+-- What the lines of an answer are, and how long; and a whole answer of its parts.
+-- A run of stores is cut where one part of it ends: the rest is stored from there on.
 use mathlib.Core.Path.{_≡_, refl, sym, _∙_, ap}
-use Prim.Native.Nat.{ℕ, zero, suc, _+_, _*_, _/_, _%_, _≤_, _<_}
+use Prim.Native.Nat.{ℕ, zero, suc, _+_, _*_, _/_, _%_, _≤_, _<_, min}
 use native.Mathlib.Omega.{arith}
 use native.Mathlib.Nat.{add-zero}
 use native.Mathlib.Numerals.{add-one}
@@ -10,49 +10,24 @@ use mathlib.Core.List.{List, [], _∷_, _++_}
 use lib.ListN.{length, getD, set, take, drop, length-append, length-take}
 use lib.Seq.{sets, drop-cons, drop-length}
 use borrow.Author.Tests.{eq-eqb, ne-eqb}
-use Rattle.digits.specs.Digits.{digits-of}
+use mir.Val.{boolByte}
 use Rattle.meaning.specs.WordLaws.{arguments-of}
 use Rattle.formulas.specs.declared.Equation.{Equation}
+use Rattle.formulas.specs.declared.Tuple.{Tuple}
 use Rattle.truth.specs.Bits.{bit-of}
 use Rattle.answers.specs.Answers.{bit}
-use Rattle.answers.specs.Printed.{characters, line-of, verdict-frame, refusal-frame}
+use Rattle.answers.specs.Printed.{verdict-frame, refusal-frame}
+use Rattle.frames.specs.Frames.{line-of}
+use Rattle.frames.specs.PutLine.{Puts}
+use Rattle.frames.specs.Written.{line-length}
+use Rattle.frames.proofs.Stores.{sets-append}
+use Rattle.words.specs.Unpacked.{argument-tuple}
 use Rattle.engine.specs.declared.Examined.{Examined}
-use Rattle.printing.specs.Lines.{Puts, parameters-of, word-frame, lines-of, text-of}
-
-pub sets-append : (l : List ℕ) (i : ℕ) (u v : List ℕ) → sets l i (u ++ v) ≡ sets (sets l i u) (i + length u) v
-sets-append l i [] v = rw add-zero
-sets-append l i (a ∷ u) v =
-    let e : suc i + length u ≡ i + suc (length u) = omega arith in
-    sets-append (set l i a) (suc i) u v ∙ ap (λ (n : ℕ). sets (sets (set l i a) (suc i) u) n v) e
-
-pub characters-length : (f : List ℕ) → length (characters f) ≡ 2 * length f
-unfolding characters
-characters-length [] = refl
-characters-length (b ∷ f) = rw (length-append (digits-of b) (characters f), characters-length f) (omega arith)
-
-pub line-length : (f : List ℕ) → length (line-of f) ≡ 2 * length f + 1
-unfolding line-of
-line-length f = length-append (characters f) (0x0a ∷ []) ∙ ap (λ (n : ℕ). n + 1) (characters-length f)
-
--- a line byte by byte
-pub line-more : (b : ℕ) (f : List ℕ) → line-of (b ∷ f) ≡ digits-of b ++ line-of f
-unfolding line-of characters
-line-more b f = refl
-
--- a turn: byte i of a frame is written
-pub line-step : (out out′ : List ℕ) (place i : ℕ) (f : List ℕ) (b : ℕ) → i < length f → b ≡ getD f i 0 → out′ ≡ sets out place (digits-of b)
-    → sets out′ (place + 2) (line-of (drop (i + 1) f)) ≡ sets out place (line-of (drop i f))
-line-step out out′ place i f b h is e =
-    let n : place + 2 ≡ suc (suc place) = omega arith in
-    rw (drop-cons f i 0 h, ← is, line-more, add-one, e, n) refl
-
--- and after the last one the line's end
-pub line-end : (out : List ℕ) (place : ℕ) (f : List ℕ) → sets out place (line-of (drop (length f) f)) ≡ set out place 0x0a
-unfolding line-of characters
-line-end out place f = rw drop-length refl
+use Rattle.engine.proofs.Starting.{as-byte}
+use Rattle.printing.specs.Lines.{parameters-of, word-frame, lines-of, text-of}
 
 -- ---- the frame of an instance, by how many arguments there are
-pub value-after : (k e p₀ p₁ p₂ p₃ v : ℕ) → k ≤ 4
+value-after : (k e p₀ p₁ p₂ p₃ v : ℕ) → k ≤ 4
     → take (k + 3) (set (0x04 ∷ e ∷ p₀ ∷ p₁ ∷ p₂ ∷ p₃ ∷ 0 ∷ 0 ∷ []) (k + 2) v) ≡ 0x04 ∷ e ∷ (take k (p₀ ∷ p₁ ∷ p₂ ∷ p₃ ∷ []) ++ (v ∷ []))
 value-after zero e p₀ p₁ p₂ p₃ v h = refl
 value-after (suc zero) e p₀ p₁ p₂ p₃ v h = refl
@@ -61,10 +36,14 @@ value-after (suc (suc (suc zero))) e p₀ p₁ p₂ p₃ v h = refl
 value-after (suc (suc (suc (suc zero)))) e p₀ p₁ p₂ p₃ v h = refl
 value-after (suc (suc (suc (suc (suc k))))) e p₀ p₁ p₂ p₃ v h = absurd (omega arith)
 
--- ---- a line and what comes after it
-pub line-then : (out out′ : List ℕ) (at at′ : ℕ) (line rest : List ℕ) → Puts out at line at′ out′
-    → (sets out′ at′ rest ≡ sets out at (line ++ rest)) × (at′ + length rest ≡ at + length (line ++ rest))
-line-then out out′ at at′ line rest e = (rw (e .1, e .0) (sym (sets-append out at line rest)), omega (arith, e .0, length-append line rest))
+pub frame-stored : (w k : ℕ) (value : Bool) {e : ℕ} {x : Tuple} → e ≡ w / 65536 → x ≡ argument-tuple w k → k ≤ 4
+    → (take (x .count + 3)
+    (set (0x04 ∷ e ∷ getD (x .values) 0 0 ∷ getD (x .values) 1 0 ∷ getD (x .values) 2 0 ∷ getD (x .values) 3 0 ∷ 0 ∷ 0 ∷ [])
+    (x .count + 2) (boolByte value)) ≡ word-frame k w value) × (x .count + 3 ≡ k + 3)
+unfolding word-frame arguments-of argument-tuple
+frame-stored w k value is unpacked few =
+    let four : min k 4 ≡ k = omega arith in
+    rw (is, unpacked, four, as-byte value) (value-after k _ _ _ _ _ _ few, refl)
 
 pub lines-more : (equations : List Equation) (truth : List ℕ) (j : ℕ) (ws : List ℕ) → j < length ws
     → lines-of equations truth j (drop j ws)

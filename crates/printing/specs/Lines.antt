@@ -6,19 +6,15 @@ use mathlib.Core.Bool.{Bool, cond}
 use mathlib.Core.List.{List, [], _∷_, _++_}
 use lib.Dec.{eqb}
 use lib.ListN.{length, take, getD}
-use lib.Seq.{sets}
 use Rattle.meaning.specs.WordLaws.{arguments-of}
 use Rattle.formulas.specs.declared.Equation.{Equation}
 use Rattle.formulas.specs.Bodies.{blank}
+use Rattle.frames.specs.Frames.{line-of}
 use Rattle.truth.specs.Bits.{bit-of}
 use Rattle.answers.specs.Answers.{bit}
-use Rattle.answers.specs.Printed.{line-of, verdict-frame, refusal-frame}
+use Rattle.answers.specs.Printed.{verdict-frame, refusal-frame}
 use Rattle.engine.specs.declared.Examined.{Examined}
 use Rattle.printing.specs.declared.Frame.{Frame}
-
--- w is stored in a buffer from place `at` on, and r is the place after it
-abbrev pub Puts : List ℕ → ℕ → List ℕ → ℕ → List ℕ → Type 0
-Puts out at w r out-left = (r ≡ at + length w) × (out-left ≡ sets out at w)
 
 abbrev pub bytes-of : Frame → List ℕ
 bytes-of f = take (f .count) (f .bytes)

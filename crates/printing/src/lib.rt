@@ -2,11 +2,11 @@
 ghost use mathlib.Core.Path.{_≡_};
 ghost use Prim.Native.Nat.{_+_, _*_, _/_, _%_, _≤_, _<_};
 ghost use lib.ListN.{length};
-ghost use lib.Seq.{sets};
-ghost use Rattle.digits.specs.Digits.{digits-of};
-ghost use Rattle.answers.specs.Printed.{line-of, verdict-frame, refusal-frame};
+ghost use Rattle.answers.specs.Printed.{verdict-frame, refusal-frame};
 ghost use Rattle.printing.specs.Promise.{Written};
-ghost use Rattle.printing.specs.Lines.{Puts, bytes-of, parameters-of, word-frame, lines-of};
+ghost use Rattle.frames.specs.Frames.{line-of};
+ghost use Rattle.frames.specs.PutLine.{Puts};
+ghost use Rattle.printing.specs.Lines.{bytes-of, parameters-of, word-frame, lines-of};
 ghost use Rattle.printing.specs.Lines.{Readable, Printable, text-of};
 use answers::Answer;
 use engine::Examined;
@@ -38,13 +38,13 @@ fn put_answer(out: &mut [u8], words: &[u32], e: Examined) -> usize
 {
     let a = e.answer;
     if a.number != 0 {
-        return put_line(out, 0, refusal_frame(a));
+        return put_frame(out, 0, refusal_frame(a));
     }
     let m = e.model;
     let equations = m.equations;
     let truth = a.truth;
     let at = put_instances(out, &words[..a.reached], truth, equations);
-    put_line(out, at, verdict_frame(a))
+    put_frame(out, at, verdict_frame(a))
 }
 
 // Writes a line for each word, and gives the number of bytes written.
@@ -58,37 +58,19 @@ fn put_instances(out: &mut [u8], words: &[u32], truth: [u64; 8], equations: [Equ
     let mut j: usize = 0;
     while j < words.len() {
         let frame = instance_frame(equations, words[j], truth::has(truth, j));
-        at = put_line(out, at, frame);
+        at = put_frame(out, at, frame);
         j += 1;
     }
     at
 }
 
 // Writes a frame's line at a place, and gives the place after it.
-fn put_line(out: &mut [u8], at: usize, frame: Frame) -> usize
+fn put_frame(out: &mut [u8], at: usize, frame: Frame) -> usize
     requires { ⌜ (frame .count ≤ 8) × (at + (2 * frame .count + 1) ≤ length (now out)) ⌝ }
     ensures { λ r. ⌜ Puts (now (out .entry)) at (line-of (bytes-of frame)) r (now (out .exit)) ⌝ }
 {
     let bytes = frame.bytes;
-    let count = frame.count;
-    let mut place = at;
-    let mut i: usize = 0;
-    while i < count {
-        put_byte(out, place, bytes[i]);
-        place += 2;
-        i += 1;
-    }
-    out[place] = 10;
-    place + 1
-}
-
-// Writes a byte as two small digits.
-fn put_byte(out: &mut [u8], at: usize, b: u8)
-    requires { ⌜ at + 1 < length (now out) ⌝ }
-    ensures { λ _. ⌜ now (out .exit) ≡ sets (now (out .entry)) at (digits-of b) ⌝ }
-{
-    out[at] = digits::digit(b / 16);
-    out[at + 1] = digits::digit(b % 16);
+    frames::put_line(out, at, &bytes[..frame.count])
 }
 
 fn instance_frame(equations: [Equation; 8], word: u32, value: bool) -> Frame
@@ -96,19 +78,12 @@ fn instance_frame(equations: [Equation; 8], word: u32, value: bool) -> Frame
     ensures { λ r. ⌜ (bytes-of r ≡ word-frame (parameters-of equations word) word value) ×
         (r .count ≡ parameters-of equations word + 3) ⌝ }
 {
-    let e = (word / 65536) as usize;
+    let e = words::equation_of(word);
     let equation = equations[e];
-    let k = basics::wide(equation.k);
-    let mut bytes = [
-        4,
-        (word / 65536) as u8,
-        (word / 4096 % 16) as u8,
-        (word / 256 % 16) as u8,
-        (word / 16 % 16) as u8,
-        (word % 16) as u8,
-        0,
-        0,
-    ];
+    let arguments = words::arguments_of(word, equation.k);
+    let p = arguments.values;
+    let k = arguments.count;
+    let mut bytes = [4, e as u8, p[0], p[1], p[2], p[3], 0, 0];
     bytes[k + 2] = value as u8;
     Frame {
         bytes,

@@ -1,8 +1,7 @@
-pub mod Answers
-pub mod Bounds
-pub mod Ends
-pub mod Heads
-pub mod Sound
 pub mod Starts
+pub mod Refusals
+pub mod Drafts
+pub mod Finishing
 pub mod Turns
 pub mod WellFormed
+pub mod LineNumbers

@@ -8,12 +8,12 @@ use mathlib.Core.List.{List, [], _∷_}
 use lib.Dec.{eqb, ltb, leb}
 use lib.ListN.{length, getD, take, length-take}
 use borrow.Author.Tests.{le-leb, leb-true, lt-ltb, le-ltb, eqb-true, eqb-false}
-use Rattle.meaning.specs.Logic.{_and_}
+use Rattle.meaning.specs.Logic.{_and_, and-false}
 use Rattle.meaning.specs.Ranges.{is-range, all-ranges, within, typed}
 use Rattle.formulas.specs.Bodies.{blank, ranges-of}
 use Rattle.formulas.proofs.Bodies.{take-most, signatures-length, signature-at}
 use Rattle.reading.specs.declared.Model.{Model}
-use Rattle.reading.specs.Models.{start-right}
+use Rattle.reading.specs.Contract.{is-start}
 
 four-tests : (p q r s : Bool) → p && (q && (r && s)) ≡ p and (q and (r and (s and true)))
 unfolding _and_
@@ -60,16 +60,11 @@ module _ (a b c d p q r s : ℕ) where
   same-number (suc (suc (suc (suc zero)))) h = four-tests (ltb a p) (ltb b q) (ltb c r) (ltb d s)
   same-number (suc (suc (suc (suc (suc n))))) h = absurd (omega arith)
 
-and-false : (b : Bool) → b and false ≡ false
-unfolding _and_
-and-false true = refl
-and-false false = refl
-
 &&-false : (b : Bool) → b && false ≡ false
 &&-false true = refl
 &&-false false = refl
 
-within-length : (x rs : List ℕ) → (length x ≡ length rs → ⊥) → within x rs ≡ false
+pub within-length : (x rs : List ℕ) → (length x ≡ length rs → ⊥) → within x rs ≡ false
 unfolding within
 within-length [] [] h = absurd (h refl)
 within-length [] (r ∷ rs) h = refl
@@ -103,11 +98,11 @@ module _ (n k m : ℕ) (x rs : List ℕ) (hx : length x ≡ 4) (hr : length rs �
 
 -- the start's equation
 module _ (m : Model) (l : m .count ≤ length (m .equations)) {i : ℕ} (e : i ≡ m .start .equation) where
-  pub start-unnamed : m .count ≤ i → false ≡ start-right m
-  unfolding start-right typed _and_
+  pub start-unnamed : m .count ≤ i → false ≡ is-start m
+  unfolding is-start typed _and_
   start-unnamed h = rw (signatures-length (m .equations) (m .count) l, ← e, le-ltb i (m .count) h) (sym (&&-false (leb (m .start .count) 4)))
 
   pub start-named : {r : Bool} → i < m .count → r ≡ leb (m .start .count) 4 && within (take (m .start .count) (m .start .arguments)) (ranges-of (getD (m .equations) i blank))
-      → r ≡ start-right m
-  unfolding start-right typed _and_
+      → r ≡ is-start m
+  unfolding is-start typed _and_
   start-named h f = rw (signatures-length (m .equations) (m .count) l, ← e, lt-ltb i (m .count) h, signature-at (m .equations) (m .count) i h) f

@@ -1,82 +1,170 @@
--- The reading of what is left, from the present state, one line further.
--- The lines of a text are its first line and the lines after it, by induction on the text.
-use Prim.Native.Nat.{ℕ, suc, _+_, _-_, _≤_, _<_}
+-- The refusal of what is left of a text, from the frames read so far, one line further.
+-- The line at a place is refused, or its frame is, or the frame comes behind the others.
+use Prim.Native.Nat.{ℕ, zero, suc, _+_, _-_, _/_, _%_, _≤_, _<_, min}
 use native.Mathlib.Omega.{arith}
-use mathlib.Core.Path.{_≡_, refl, sym, _∙_}
-use mathlib.Core.Bool.{Bool, true, false}
-use mathlib.Core.List.{List, [], _∷_}
-use lib.ListN.{length, take, drop, length-drop, drop-of-length-le}
-use lib.Seq.{drop-drop}
-use lib.Dec.{eqb, ltb, leb·suc-suc}
-use borrow.Author.Tests.{eq-eqb, ne-eqb, le-leb, lt-leb, lt-ltb, le-ltb, ltb-true, ltb-false}
-use Rattle.reading.specs.declared.Model.{Model}
-use Rattle.reading.specs.declared.Reading.{Reading}
-use Rattle.reading.specs.Lines.{Line, lines-of, first-length}
-use Rattle.reading.specs.Models.{no-model}
-use Rattle.reading.specs.Reading.{refused, read-line, line-at, read-lines, finished, reading}
+use mathlib.Core.Path.{_≡_, refl, sym, ap, _∙_}
+use mathlib.Core.Bool.{Bool, true, false, cond, _&&_}
+use mathlib.Core.List.{List, [], _∷_, _++_, append-nil}
+use lib.Dec.{eqb, leb}
+use lib.ListN.{length, getD, take, drop, length-drop}
+use lib.Seq.{length-take-le}
+use borrow.Author.Tests.{eq-eqb, ne-eqb, eqb-true, eqb-false, le-leb, lt-leb, leb-true}
+use Rattle.digits.specs.Digits.{bytes-of, padded}
+use Rattle.digits.proofs.Pairs.{length-bytes}
+use Rattle.digits.proofs.Filled.{padded-first}
+use Rattle.frames.specs.declared.FrameAt.{FrameAt}
+use Rattle.frames.specs.Lines.{Line, lines-of, all-digits, is-valid-line, line-refusal, place-of, line-place}
+use Rattle.frames.specs.Frames.{Frame, Frames, stopped, with-frame, frames-from, frames}
+use Rattle.frames.specs.FrameAt.{first-length, line-at, end-at, refused-at, frame-at}
+use Rattle.frames.proofs.At.{first-length-most}
+use Rattle.frames.proofs.Turns.{lines-at, lines-past}
+use Rattle.reading.specs.Models.{equations-in, starts-in, is-none}
+use Rattle.reading.specs.Reading.{Refusal, refused, frame-refusal, finished, frames-judged, text-refusal}
+use Rattle.reading.proofs.Refusals.{&&-left, &&-right}
+use Rattle.reading.proofs.Drafts.{frame-of}
 
--- the first line of a text
-abbrev first : ℕ → List ℕ → Line
-first p s = record { place = p; characters = take (first-length s) s; ended = ltb (first-length s) (length s) }
+-- the refusal of some frames, after those that are done
+abbrev pub judged : List Frame → Frames → Refusal
+judged done fs = frames-judged done (fs .all) (refused (fs .number) (fs .line))
 
--- the lines that come after it
-abbrev others : ℕ → List ℕ → List Line
-others p s = lines-of (p + (first-length s + 1)) (drop (first-length s + 1) s)
+-- the frames of what stands from a place on, its first line number i
+abbrev pub frames-at : List ℕ → ℕ → ℕ → Frames
+frames-at t i p = frames-from i (lines-of (drop p t))
 
-module _ (p c : ℕ) where
-  last-line : (b : Bool) → eqb c 10 ≡ b → lines-of p (c ∷ []) ≡ first p (c ∷ []) ∷ others p (c ∷ [])
-  unfolding lines-of first-length
-  last-line true h = rw h refl
-  last-line false h = rw h refl
+-- ---- the line at a place
+refusal-is : (b : Bool) (n : ℕ) (x y : FrameAt) → eqb n 0 ≡ b → x .number ≡ 0 → y .number ≡ n → cond b x y .number ≡ n
+refusal-is true n x y e p q = p ∙ sym (eqb-true n 0 e)
+refusal-is false n x y e p q = q
 
-  one-more : (s : List ℕ) (b : Bool) → eqb c 10 ≡ b → lines-of (p + 1) s ≡ first (p + 1) s ∷ others (p + 1) s → lines-of p (c ∷ s) ≡ first p (c ∷ s) ∷ others p (c ∷ s)
-  unfolding lines-of first-length
-  one-more s true h e = rw (h, lt-ltb 0 (suc (length s)) (omega arith)) refl
-  one-more s false h e =
-      let x : suc (first-length s) + 1 ≡ suc (first-length s + 1) = omega arith in
-      let y : p + suc (first-length s + 1) ≡ p + 1 + (first-length s + 1) = omega arith in
-      rw (h, e, x, y, leb·suc-suc (suc (first-length s)) (length s)) refl
+-- a line that is not refused has at most 512 characters
+valid-size : (l : Line) → line-refusal l ≡ 0 → length (l .characters) ≤ 512
+unfolding line-refusal
+valid-size l = by (all-digits (l .characters)) (is-valid-line l) refl
+  where
+    by : (d v : Bool) → is-valid-line l ≡ v → _≡_ {A = ℕ} (cond d (cond v 0 3) 2) 0 → length (l .characters) ≤ 512
+    by true true e h =
+        let n = length (l .characters) in
+        leb-true n 512 (&&-left (leb n 512) (eqb (n % 2) 0) (&&-right (l .ended && leb 1 n) (leb n 512 && eqb (n % 2) 0) e))
+    by true false e h = absurd (omega arith)
+    by false v e h = absurd (omega arith)
 
-lines-first : (p c : ℕ) (s : List ℕ) → lines-of p (c ∷ s) ≡ first p (c ∷ s) ∷ others p (c ∷ s)
-lines-first p c [] = last-line p c (eqb c 10) refl
-lines-first p c (d ∷ s) = one-more p c (d ∷ s) (eqb c 10) refl (lines-first (p + 1) d s)
+module _ (t : List ℕ) (at : ℕ) {f : FrameAt} (e : f ≡ frame-at t at) where
+  pub number-is : f .number ≡ line-refusal (line-at t at)
+  unfolding frame-at
+  number-is = ap (λ (f : FrameAt). f .number) e ∙ refusal-is _ _ _ _ refl refl refl
 
-lines-some : (p : ℕ) (s : List ℕ) → 0 < length s → lines-of p s ≡ first p s ∷ others p s
-lines-some p [] h = absurd (omega arith)
-lines-some p (c ∷ s) h = lines-first p c s
+  pub end-is : f .end ≡ end-at t at
+  unfolding frame-at
+  end-is = ap (λ (f : FrameAt). f .end) e ∙ same (eqb (line-refusal (line-at t at)) 0)
+    where
+      same : (b : Bool) → cond b (record { number = 0; end = end-at t at; size = length (line-at t at .characters) / 2; bytes = padded (bytes-of (line-at t at .characters)) }) (refused-at (line-refusal (line-at t at)) (end-at t at)) .end ≡ end-at t at
+      same true = refl
+      same false = refl
 
-same-ltb : (a b c d : ℕ) (x : Bool) → ltb a b ≡ x → (a < b → c < d) → (b ≤ a → d ≤ c) → x ≡ ltb c d
-same-ltb a b c d true h f g = sym (lt-ltb c d (f (ltb-true a b h)))
-same-ltb a b c d false h f g = sym (le-ltb c d (g (ltb-false a b h)))
+  pub end-near : at < length t → (at ≤ f .end) × (f .end ≤ length t)
+  end-near h =
+      let most = first-length-most (drop at t) in
+      let left = length-drop at t in
+      (omega (arith, end-is), omega (arith, end-is, most, left))
 
--- the line that starts at `at` and ends at `end`, and the lines after it
-module _ (t : List ℕ) (at end : ℕ) (l : at < length t) (e : end ≡ at + first-length (drop at t)) where
-  lines-at : lines-of at (drop at t) ≡ line-at t at end ∷ lines-of (end + 1) (drop (end + 1) t)
-  lines-at =
-      let k : end - at ≡ first-length (drop at t) = omega arith in
-      let n : at + (first-length (drop at t) + 1) ≡ end + 1 = omega arith in
-      let d : length (drop at t) ≡ length t - at = length-drop at t in
-      let q : ltb (first-length (drop at t)) (length (drop at t)) ≡ ltb end (length t) = same-ltb (first-length (drop at t)) (length (drop at t)) end (length t) _ refl (λ x. omega arith)
-      (λ x. omega arith) in
-      lines-some at (drop at t) (omega arith) ∙ rw (q, drop-drop (first-length (drop at t) + 1) at t, n, k) refl
+  module _ (z : f .number ≡ 0) where
+    is-frame : f ≡ record { number = 0; end = end-at t at; size = length (line-at t at .characters) / 2; bytes = padded (bytes-of (line-at t at .characters)) }
+    unfolding frame-at
+    is-frame = e ∙ rw (sym number-is ∙ z) refl
 
-  module _ (m : Model) (i : ℕ) (r : Reading) (rr : r ≡ read-line t m i (line-at t at end)) where
-    pub stops : (r .number ≡ 0 → ⊥) → read-lines t m i (lines-of at (drop at t)) ≡ r
-    unfolding read-lines
-    stops x = rw (lines-at, ← rr, ne-eqb (r .number) 0 x) refl
+    pub size-is : f .size ≡ length (bytes-of (line-at t at .characters))
+    size-is = ap (λ (f : FrameAt). f .size) is-frame ∙ sym (length-bytes (line-at t at .characters))
 
-    pub goes : r .number ≡ 0 → read-lines t m i (lines-of at (drop at t)) ≡ read-lines t (r .model) (i + 1) (lines-of (end + 1) (drop (end + 1) t))
-    unfolding read-lines
-    goes x = rw (lines-at, ← rr, eq-eqb (r .number) 0 x) refl
+    pub small : f .size ≤ 256
+    small = omega (arith, size-is, length-bytes (line-at t at .characters), valid-size (line-at t at) (sym number-is ∙ z))
 
-pub ends : (t : List ℕ) (m : Model) (i at : ℕ) → length t ≤ at → read-lines t m i (lines-of at (drop at t)) ≡ finished t m i
-unfolding read-lines lines-of
-ends t m i at l = rw (drop-of-length-le t l) refl
+    pub bytes-are : take (f .size) (f .bytes) ≡ bytes-of (line-at t at .characters)
+    bytes-are =
+        ap (λ (n : ℕ). take n (f .bytes)) size-is ∙
+        ap (λ (f : FrameAt). take (length (bytes-of (line-at t at .characters))) (f .bytes)) is-frame ∙
+        padded-first (bytes-of (line-at t at .characters)) (omega (arith, size-is, small))
 
-pub too-long : (t : List ℕ) → 32768 < length t → refused 1 0 ≡ reading t
-unfolding reading
-too-long t l = rw (lt-leb (length t) 32768 l) refl
+-- ---- what is left, one line further
+module _ (t : List ℕ) (done : List Frame) (line at : ℕ) (h : at < length t) {f : FrameAt} (e : f ≡ frame-at t at) where
+  frames-here : frames-at t line at
+      ≡ cond (eqb (line-refusal (line-at t at)) 0)
+      (with-frame line (bytes-of (line-at t at .characters)) (frames-at t (line + 1) (end-at t at + 1)))
+      (stopped (line-refusal (line-at t at)) line)
+  unfolding frames-from
+  frames-here = ap (frames-from line) (lines-at t at h)
 
-pub begins : (t : List ℕ) {m : Model} → length t ≤ 32768 → m ≡ no-model → reading t ≡ read-lines t m 1 (lines-of 0 (drop 0 t))
-unfolding reading
-begins t l e = rw (le-leb (length t) 32768 l, e) refl
+  pub line-stops : (f .number ≡ 0 → ⊥) → judged done (frames-at t line at) ≡ refused (f .number) line
+  unfolding frames-judged
+  line-stops x =
+      let n : eqb (line-refusal (line-at t at)) 0 ≡ false = ne-eqb _ 0 (λ z. x (number-is t at e ∙ z)) in
+      ap (judged done) frames-here ∙ rw (n, number-is t at e) (rw n refl)
+
+  module _ (z : f .number ≡ 0) where
+    abbrev bytes : List ℕ
+    bytes = take (f .size) (f .bytes)
+
+    abbrev number : ℕ
+    number = frame-refusal (length (equations-in done)) (is-none (starts-in done)) bytes
+
+    pub framed : frames-at t line at ≡ with-frame line bytes (frames-at t (line + 1) (f .end + 1))
+    framed =
+        let n : eqb (line-refusal (line-at t at)) 0 ≡ true = eq-eqb _ 0 (sym (number-is t at e) ∙ z) in
+        frames-here ∙ rw (n, bytes-are t at e z, end-is t at e) refl
+
+    pub frame-stops : (number ≡ 0 → ⊥) → judged done (frames-at t line at) ≡ refused number line
+    unfolding frames-judged
+    frame-stops x = ap (judged done) framed ∙ rw (ne-eqb number 0 x) refl
+
+    pub frame-goes : number ≡ 0 → judged done (frames-at t line at) ≡ judged (done ++ (frame-of line bytes ∷ [])) (frames-at t (line + 1) (f .end + 1))
+    unfolding frames-judged
+    frame-goes x = ap (judged done) framed ∙ rw (eq-eqb number 0 x) refl
+
+-- at the end
+pub all-done : (t : List ℕ) (done : List Frame) (line at : ℕ) → length t ≤ at → done ++ frames-at t line at .all ≡ done
+unfolding frames-from
+all-done t done line at h = ap (λ (ls : List Line). done ++ frames-from line ls .all) (lines-past t at h) ∙ append-nil done
+
+pub lines-end : (t : List ℕ) (done : List Frame) (line at : ℕ) → length t ≤ at → judged done (frames-at t line at) ≡ finished done line
+unfolding frames-judged frames-from
+lines-end t done line at h = ap (λ (ls : List Line). judged done (frames-from line ls)) (lines-past t at h) ∙ refl
+
+pub too-long : (t : List ℕ) → 32768 < length t → text-refusal t ≡ refused 1 0
+unfolding text-refusal frames frames-judged
+too-long t h = rw (lt-leb (length t) 32768 h) refl
+
+pub begins : (t : List ℕ) → length t ≤ 32768 → text-refusal t ≡ judged [] (frames-at t 1 0)
+unfolding text-refusal frames
+begins t h = rw (le-leb (length t) 32768 h) refl
+
+pub begins-all : (t : List ℕ) → length t ≤ 32768 → frames t .all ≡ frames-at t 1 0 .all
+unfolding frames
+begins-all t h = rw (le-leb (length t) 32768 h) refl
+
+-- ---- where lines begin
+place-next : (i : ℕ) (ls : List Line) {l : Line} {rest : List Line} → drop i ls ≡ l ∷ rest
+    → (place-of (suc i) ls ≡ place-of i ls + suc (length (l .characters))) × (drop (suc i) ls ≡ rest)
+unfolding place-of
+place-next zero [] e = absurd (omega (arith, ap length e))
+place-next zero (k ∷ ls) e =
+    let same = ap (λ (ls : List Line). length (getD ls 0 (record { characters = []; ended = false }) .characters)) e in
+    (omega (arith, same), ap (drop 1) e)
+place-next (suc i) [] e = absurd (omega (arith, ap length e))
+place-next (suc i) (k ∷ ls) e = let p = place-next i ls e in (omega (arith, p .0), p .1)
+
+-- the lines from number i on begin at a place
+pub record Begins (t : List ℕ) (i at : ℕ) : Type 0 where
+  pub counted : 1 ≤ i
+  pub lines : drop (i - 1) (lines-of t) ≡ lines-of (drop at t)
+  pub place : line-place t i ≡ at
+
+pub first-begins : (t : List ℕ) → Begins t 1 0
+unfolding place-of
+first-begins t = record { counted = omega arith; lines = refl; place = refl }
+
+pub next-begins : (t : List ℕ) (i at : ℕ) → at < length t → Begins t i at → Begins t (i + 1) (end-at t at + 1)
+next-begins t i at h b =
+    let n = b .counted in
+    let m : i + 1 - 1 ≡ suc (i - 1) = omega arith in
+    let next = place-next (i - 1) (lines-of t) (b .lines ∙ lines-at t at h) in
+    let size = length-take-le (first-length (drop at t)) (drop at t) (first-length-most (drop at t)) in
+    record { counted = omega arith; lines = rw m (next .1); place = rw m (next .0 ∙ omega (arith, b .place, size)) }

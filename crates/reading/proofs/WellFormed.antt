@@ -1,88 +1,138 @@
 -- A text that is not refused gives a well-formed model and start, each body one formula that was read whole.
--- What each refusal leaves, `Sound` and `Right`, put together.
-use Prim.Native.Nat.{ℕ, zero, suc, _≤_, _<_}
+-- Frame by frame: what each refusal leaves is kept, `Kept`; then what 7 and 8 leave.
+use Prim.Native.Nat.{ℕ, zero, suc, _+_, _≤_, _<_}
 use native.Mathlib.Omega.{arith}
-use mathlib.Core.Path.{_≡_, refl, ap}
-use mathlib.Core.Bool.{true, _&&_}
-use mathlib.Core.List.{List, [], _∷_, map}
-use lib.Dec.{leb}
-use lib.ListN.{length, getD, take, length-map}
-use lib.Seq.{length-take-le, getD-take}
-use borrow.Author.Tests.{le-leb}
-use Rattle.digits.specs.Digits.{bytes-at}
+use mathlib.Core.Path.{_≡_, refl, sym, ap, subst, _∙_}
+use mathlib.Core.Bool.{Bool, true, false, cond, _&&_}
+use mathlib.Core.List.{List, [], _∷_, _++_, map, append-assoc, append-nil}
+use lib.Dec.{eqb, leb}
+use lib.ListN.{length, getD, take, length-map, length-take}
+use lib.Seq.{length-take-le}
+use borrow.Author.Tests.{le-leb, leb-true, eqb-true, eqb-false}
 use Rattle.meaning.specs.Logic.{_and_, Is, is, and-i, and-l, and-r, eq→Is}
-use Rattle.meaning.specs.Models as meaning
 use Rattle.meaning.specs.Ranges.{is-range, all-ranges, typed, signatures, well-formed-equation, well-formed-equations, well-formed}
-use Rattle.formulas.specs.declared.Equation.{Equation}
-use Rattle.formulas.specs.Decode.{some, formula-at}
-use Rattle.formulas.specs.Bodies.{blank, ranges-of, signatures-of, formula-of, is-fitting}
-use Rattle.formulas.proofs.Decoded.{body-short, body-whole, body-sound}
-use Rattle.reading.specs.declared.Model.{Model}
-use Rattle.reading.specs.Meant.{equation-of, model-of, start-of}
-use Rattle.reading.specs.Models.{start-right}
-use Rattle.reading.specs.Reading.{reading}
-use Rattle.reading.proofs.Sound.{EquationSound, Sound, Right, &&-right, sound, right}
+use Rattle.frames.specs.Lines.{line-place}
+use Rattle.frames.specs.Frames.{Frame, frames}
+use Rattle.formulas.specs.Bodies.{formula-of, is-fitting}
+use Rattle.formulas.proofs.Decoded.{body-sound}
+use Rattle.reading.specs.Equations.{four-ranges, ranges-in, body-in, is-valid-head, equation-of, start-of}
+use Rattle.reading.specs.Models.{frames-with, equations-in, starts-in, is-none, first-of, model-of, start-in}
+use Rattle.reading.specs.Reading.{Refusal, refused, instances-judged, start-judged, finished, frames-judged, text-refusal}
+use Rattle.reading.specs.Records.{model-record, kept, bodies-over, reading}
+use Rattle.reading.proofs.Refusals.{&&-left, &&-right}
+use Rattle.reading.proofs.Drafts.{EquationSound, Sound, Kept, Drafted, Goes, goes, refusal-after, kept-none, kept-more, no-frame}
 
-signatures-same : (t : List ℕ) (l : List Equation) → signatures (map (equation-of t) l) ≡ map ranges-of l
-signatures-same t [] = refl
-signatures-same t (e ∷ l) = ap (λ (s : List (List ℕ)). ranges-of e ∷ s) (signatures-same t l)
+-- what 7 and 8 leave beside
+pub record Passed (fs : List Frame) : Type 0 where
+  pub frames-kept : Kept fs
+  pub started : is-none (starts-in fs) ≡ false
+  pub fit : (j : ℕ) → j < length (equations-in fs) → let f = getD (equations-in fs) j no-frame .bytes in
+      is-fitting (signatures (model-of fs)) (body-in f) (ranges-in f) ≡ true
+  pub starts : typed (signatures (model-of fs)) (start-in fs) ≡ true
 
--- the first ranges of some that are all ranges
+-- ---- where nothing is refused, each test holds
+passed : (b : Bool) (n i : ℕ) (r : Refusal) → 0 < n → cond b r (refused n i) .number ≡ 0 → (b ≡ true) × (r .number ≡ 0)
+passed true n i r h e = (refl, e)
+passed false n i r h e = absurd (omega arith)
+
+instances-passed : (sigs : List (List ℕ)) (es : List Frame) (others : Refusal) → instances-judged sigs es others .number ≡ 0
+    → ((j : ℕ) → j < length es → let f = getD es j no-frame .bytes in is-fitting sigs (body-in f) (ranges-in f) ≡ true) × (others .number ≡ 0)
+unfolding instances-judged
+instances-passed sigs [] others e = ((λ j h. absurd (omega arith)), e)
+instances-passed sigs (f ∷ es) others e =
+    let here = passed _ 7 _ _ (omega arith) e in
+    let more = instances-passed sigs es others (here .1) in
+    ((λ j. elim j [ zero ↦ λ h. here .0 | suc j ↦ λ h. more .0 j (omega arith) ]), more .1)
+
+finished-passed : (fs : List Frame) (i : ℕ) → Kept fs → finished fs i .number ≡ 0 → Passed fs
+unfolding finished start-judged
+finished-passed fs i k = begun (is-none (starts-in fs)) refl
+  where
+    begun : (b : Bool) → is-none (starts-in fs) ≡ b
+        → cond b (refused 4 i) (instances-judged (signatures (model-of fs)) (equations-in fs)
+        (start-judged (signatures (model-of fs)) (first-of (starts-in fs)))) .number ≡ 0 → Passed fs
+    begun true b e = absurd (omega arith)
+    begun false b e =
+        let seven = instances-passed (signatures (model-of fs)) (equations-in fs) _ e in
+        record { frames-kept = k; started = b; fit = seven .0; starts = passed _ 8 _ (refused 0 0) (omega arith) (seven .1) .0 }
+
+frames-passed : (done fs : List Frame) (end : Refusal) → Kept done → frames-judged done fs end .number ≡ 0 → Passed (done ++ fs)
+unfolding frames-judged
+frames-passed done [] end k = by (eqb (end .number) 0) refl
+  where
+    by : (b : Bool) → eqb (end .number) 0 ≡ b → cond b (finished done (end .line)) end .number ≡ 0 → Passed (done ++ [])
+    by true b e = subst Passed (sym (append-nil done)) (finished-passed done (end .line) k e)
+    by false b e = absurd (eqb-false (end .number) 0 b e)
+frames-passed done (f ∷ fs) end k =
+    by (eqb (refusal-after done (f .bytes)) 0) refl (λ g. frames-passed (done ++ (f ∷ [])) fs end (kept-more (goes done f g) k))
+  where
+    by : (b : Bool) → eqb (refusal-after done (f .bytes)) 0 ≡ b
+        → (refusal-after done (f .bytes) ≡ 0 → frames-judged (done ++ (f ∷ [])) fs end .number ≡ 0 → Passed ((done ++ (f ∷ [])) ++ fs))
+        → cond b (frames-judged (done ++ (f ∷ [])) fs end) (refused (refusal-after done (f .bytes)) (f .line)) .number ≡ 0
+        → Passed (done ++ (f ∷ fs))
+    by true b g e = subst Passed (append-assoc done (f ∷ []) fs) (g (eqb-true _ 0 b) e)
+    by false b g e = absurd (eqb-false _ 0 b e)
+
+pub text-passed : (t : List ℕ) → text-refusal t .number ≡ 0 → Passed (frames t .all)
+unfolding text-refusal
+text-passed t e = frames-passed [] (frames t .all) _ kept-none e
+
+-- ---- so the model is well-formed
+-- what 5 leaves of a head
+head-parts : (f : List ℕ) → is-valid-head f ≡ true → (getD f 2 0 ≤ 4) × (all-ranges (four-ranges f) ≡ true)
+unfolding is-valid-head
+head-parts f h =
+    let ranges = all-ranges (four-ranges f) in
+    let few = leb (getD f 2 0) 4 in
+    let tail = &&-right (leb (getD f 1 0) 1) (few && ranges) (&&-right (leb (3 + getD f 2 0) (length f)) _ h) in
+    (leb-true (getD f 2 0) 4 (&&-left few ranges tail), &&-right few ranges tail)
+
+-- as many parameters as k says
+pub parameters : {f : List ℕ} → EquationSound f → (getD f 2 0 ≤ 4) × (length (ranges-in f) ≡ getD f 2 0)
+parameters {f} s =
+    let k = head-parts f (s .head) .0 in
+    (k, length-take-le (getD f 2 0) (four-ranges f) k)
+
 ranges-first : (k : ℕ) (l : List ℕ) → Is (all-ranges l) → Is (all-ranges (take k l))
 unfolding all-ranges
 ranges-first zero l h = is
 ranges-first (suc k) [] h = is
 ranges-first (suc k) (r ∷ l) h = and-i (and-l (is-range r) (all-ranges l) h) (ranges-first k l (and-r (is-range r) (all-ranges l) h))
 
-equations-well-formed : (t : List ℕ) (sigs : List (List ℕ)) (l : List Equation)
-    → ((j : ℕ) → j < length l → Is (well-formed-equation sigs (equation-of t (getD l j blank)))) → Is (well-formed-equations sigs (map (equation-of t) l))
-unfolding well-formed-equations
-equations-well-formed t sigs [] f = is
-equations-well-formed t sigs (e ∷ l) f = and-i (f 0 (omega arith)) (equations-well-formed t sigs l (λ j h. f (suc j) (omega arith)))
-
--- as many parameters as k says
-pub parameters : {t : List ℕ} {e : Equation} → EquationSound t e → length (ranges-of e) ≡ e .k
-parameters {t} {e} s = length-take-le (e .k) (e .ranges) (omega (arith, s .few, s .four))
-
-equation-well-formed : (t : List ℕ) (equations : List Equation) (count : ℕ) (e : Equation) → EquationSound t e → is-fitting equations count t e ≡ true
-    → Is (well-formed-equation (signatures-of equations count) (equation-of t e))
+equation-well-formed : (sigs : List (List ℕ)) (f : List ℕ) → EquationSound f → is-fitting sigs (body-in f) (ranges-in f) ≡ true
+    → Is (well-formed-equation sigs (equation-of f))
 unfolding well-formed-equation is-fitting
-equation-well-formed t equations count e s f =
+equation-well-formed sigs f s h =
+    let p = parameters s in
     and-i (and-i (and-i
-    (eq→Is (le-leb (length (ranges-of e)) 4 (omega (arith, s .few, parameters s))))
-    (ranges-first (e .k) (e .ranges) (eq→Is (s .ranges))))
-    (body-sound t e (s .body)))
-    (eq→Is f)
+    (eq→Is (le-leb (length (ranges-in f)) 4 (omega (arith, p .0, p .1))))
+    (ranges-first (getD f 2 0) (four-ranges f) (eq→Is (head-parts f (s .head) .1))))
+    (body-sound (body-in f) (ranges-in f) (s .body)))
+    (eq→Is h)
 
-model-well-formed : (t : List ℕ) (m : Model) → Sound t m → Right t m → Is (well-formed (model-of t m) (start-of m))
-unfolding well-formed model-of start-right
-model-well-formed t m s r =
-    let l = length-take-le (m .count) (m .equations) (omega (arith, s .few, s .eight)) in
-    rw (signatures-same t (take (m .count) (m .equations)))
-    (and-i (and-i
-    (eq→Is (le-leb (length (map (equation-of t) (take (m .count) (m .equations)))) 8 (omega (arith, length-map (take (m .count) (m .equations)) (equation-of t), l, s .few))))
-    (equations-well-formed t (signatures-of (m .equations) (m .count)) (take (m .count) (m .equations)) (λ j h.
-    let i : j < m .count = omega (arith, h, l) in
-    rw (getD-take (m .count) (m .equations) j blank i) (equation-well-formed t (m .equations) (m .count) (getD (m .equations) j blank) (s .equations j i) (r .fit j i)))))
-    (eq→Is (&&-right (leb (m .start .count) 4) (typed (signatures-of (m .equations) (m .count)) (start-of m)) (r .starts))))
+equations-well-formed : (sigs : List (List ℕ)) (es : List Frame)
+    → ((j : ℕ) → j < length es → Is (well-formed-equation sigs (equation-of (getD es j no-frame .bytes))))
+    → Is (well-formed-equations sigs (map (λ f. equation-of (f .bytes)) es))
+unfolding well-formed-equations
+equations-well-formed sigs [] f = is
+equations-well-formed sigs (e ∷ es) f = and-i (f 0 (omega arith)) (equations-well-formed sigs es (λ j h. f (suc j) (omega arith)))
 
-pub reading-well-formed : (t : List ℕ) → reading t .number ≡ 0 → Is (well-formed (model-of t (reading t .model)) (start-of (reading t .model)))
-reading-well-formed t h = model-well-formed t (reading t .model) (sound t) (right t h)
+pub reading-well-formed : (t : List ℕ) → text-refusal t .number ≡ 0 → Is (well-formed (model-of (frames t .all)) (start-in (frames t .all)))
+unfolding well-formed model-of
+reading-well-formed t h =
+    let p = text-passed t h in
+    let es = equations-in (frames t .all) in
+    let k = p .frames-kept .sound in
+    and-i (and-i
+    (eq→Is (le-leb (length (map (λ f. equation-of (f .bytes)) es)) 8 (omega (arith, length-map es (λ f. equation-of (f .bytes)), k .few))))
+    (equations-well-formed (signatures (model-of (frames t .all))) es (λ j l. equation-well-formed (signatures (model-of (frames t .all))) _ (k .each j l) (p .fit j l))))
+    (eq→Is (p .starts))
 
--- of each equation of an answer: its body is its formula, from the first byte to the last
-pub equation-body : (t : List ℕ) (e : Equation) → EquationSound t e → formula-at (e .length) (bytes-at t (e .place) (e .length)) (e .k) 0 0 ≡ some (formula-of t e) (e .length)
-equation-body t e s = rw (parameters s) at (body-whole t e (s .body))
-
-pub equation-short : (t : List ℕ) (e : Equation) → EquationSound t e → e .length ≤ 256
-equation-short t e s = body-short t e (s .body)
-
-module _ (t : List ℕ) (j : ℕ) (h : j < reading t .model .count) where
-  -- equation number j of the answer
-  abbrev the-equation : Equation
-  the-equation = getD (reading t .model .equations) j blank
-
-  pub reading-equation : EquationSound t the-equation
-  reading-equation = sound t .equations j h
-
-  pub reading-bodies : formula-at (the-equation .length) (bytes-at t (the-equation .place) (the-equation .length)) (the-equation .k) 0 0 ≡ some (formula-of t the-equation) (the-equation .length)
-  reading-bodies = equation-body t the-equation reading-equation
+-- ---- the structs of every reading hold the frames that are kept
+pub reading-drafted : (t : List ℕ) → Drafted (line-place t) (kept t) (reading t .model) (reading t .bodies)
+unfolding reading
+reading-drafted t = record { model = refl; stored = refl; kept = by (eqb (text-refusal t .number) 0) refl }
+  where
+    by : (b : Bool) → eqb (text-refusal t .number) 0 ≡ b → Kept (cond b (frames t .all) [])
+    by true e = text-passed t (eqb-true _ 0 e) .frames-kept
+    by false e = kept-none

@@ -1,6 +1,6 @@
-pub mod Lines
-pub mod Frames
-pub mod Meant
+pub mod Equations
 pub mod Models
 pub mod Reading
+pub mod Records
+pub mod Contract
 pub mod OneReply

@@ -1,38 +1,41 @@
--- DEFINITIONS: the records of a model as they grow line by line, and the start's rule. Document 01, refusal 8.
+-- DEFINITIONS: the model that some frames make, and its start. Document 01, "Text of a model".
 -- "Equations number from 0 in file order."
-use Prim.Native.Nat.{ℕ, _+_}
-use mathlib.Core.Bool.{Bool, true, false, _&&_}
-use lib.Dec.{leb}
-use lib.ListN.{set, replicate}
-use Rattle.meaning.specs.Ranges.{typed}
-use Rattle.formulas.specs.declared.Equation.{Equation}
-use Rattle.formulas.specs.Bodies.{signatures-of}
-use Rattle.reading.specs.declared.Start.{Start}
-use Rattle.reading.specs.declared.Model.{Model}
-use Rattle.reading.specs.Meant.{start-of}
+use Prim.Native.Nat.{ℕ}
+use mathlib.Core.Bool.{Bool, true, false, cond}
+use mathlib.Core.List.{List, [], _∷_, map}
+use lib.Dec.{eqb}
+use lib.ListN.{getD}
+use Rattle.meaning.specs.Models.{Model}
+use Rattle.meaning.specs.Reach.{Instance}
+use Rattle.frames.specs.Frames.{Frame}
+use Rattle.reading.specs.Equations.{equation-of, start-of}
 
-abbrev pub no-model : Model
-no-model = record {
-  count = 0;
-  equations = replicate 8 (record { sign = 0; k = 0; ranges = replicate 4 0; place = 0; length = 0 });
-  lines = replicate 8 0;
-  started = false;
-  start = record { line = 0; equation = 0; count = 0; arguments = replicate 4 0 };
-}
+-- "`01` equation", "`02` start", "`03` note": the first byte
+abbrev pub code-of : Frame → ℕ
+code-of f = getD (f .bytes) 0 0
 
--- the next equation, and its line
-unfoldable pub with-equation : Model → ℕ → Equation → Model
-with-equation m line e = record {
-  count = m .count + 1;
-  equations = set (m .equations) (m .count) e;
-  lines = set (m .lines) (m .count) line;
-  started = m .started;
-  start = m .start;
-}
+-- the frames with this first byte
+unfoldable pub frames-with : ℕ → List Frame → List Frame
+frames-with code [] = []
+frames-with code (f ∷ fs) = cond (eqb (code-of f) code) (f ∷ frames-with code fs) (frames-with code fs)
 
-unfoldable pub with-start : Model → Start → Model
-with-start m s = record { count = m .count; equations = m .equations; lines = m .lines; started = true; start = s }
+abbrev pub equations-in : List Frame → List Frame
+equations-in = frames-with 0x01
 
--- 8: not "the start names no equation, has the wrong number of arguments, or one not below its range"; no equation has more than four parameters
-unfoldable pub start-right : Model → Bool
-start-right m = leb (m .start .count) 4 && typed (signatures-of (m .equations) (m .count)) (start-of m)
+abbrev pub starts-in : List Frame → List Frame
+starts-in = frames-with 0x02
+
+abbrev pub is-none : List Frame → Bool
+is-none [] = true
+is-none (f ∷ fs) = false
+
+unfoldable pub model-of : List Frame → Model
+model-of fs = map (λ f. equation-of (f .bytes)) (equations-in fs)
+
+-- the first frame of some; where there is none, one with no byte
+abbrev pub first-of : List Frame → Frame
+first-of [] = record { line = 0; bytes = [] }
+first-of (f ∷ fs) = f
+
+abbrev pub start-in : List Frame → Instance
+start-in fs = start-of (first-of (starts-in fs) .bytes)

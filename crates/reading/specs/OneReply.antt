@@ -5,7 +5,7 @@ use mathlib.Core.Path.{_≡_}
 use mathlib.Core.List.{List}
 use Rattle.meaning.specs.OneReply.{one-reply}
 use Rattle.reading.specs.declared.Reading.{Reading}
-use Rattle.reading.specs.Reading.{reading}
+use Rattle.reading.specs.Records.{reading}
 
 pub one-read-model : (text : List ℕ) {r s : Reading} → r ≡ reading text → s ≡ reading text → r ≡ s
 one-read-model text = one-reply

@@ -1,94 +1,79 @@
--- DEFINITIONS: reading: every text gives a refusal with its number and line, or a model. Document 01, "Numbers of refusal".
--- "Order: .. 1; then lines from the top, in each line 2, 3, 4, 5, 6; then the missing start; then 7 by line; then 8": the order of the tests below.
-use Prim.Native.Nat.{ℕ, zero, suc, _+_, _-_, _/_, _%_}
-use mathlib.Core.Bool.{Bool, true, false, cond, not, _&&_}
-use mathlib.Core.List.{List, [], _∷_}
+-- DEFINITIONS: the refusal of a text. Document 01, "Numbers of refusal".
+-- "Order: .. 1; then lines from the top, in each line 2, 3, 4, 5, 6; then the missing start; then 7 by line; then
+-- 8": the order of the tests below. Refusals 1, 2 and 3 are those of the frames.
+use Prim.Native.Nat.{ℕ}
+use mathlib.Core.Bool.{Bool, cond, _&&_}
+use mathlib.Core.List.{List, [], _∷_, _++_}
 use lib.Dec.{ltb, leb, eqb}
-use lib.ListN.{getD, length, take, drop}
-use Rattle.digits.specs.Digits.{bytes-at}
-use Rattle.formulas.specs.Bodies.{blank, is-body, is-fitting}
-use Rattle.reading.specs.declared.Model.{Model}
-use Rattle.reading.specs.declared.Reading.{Reading}
-use Rattle.reading.specs.Lines.{Line, lines-of, all-digits}
-use Rattle.reading.specs.Frames.{head-right, equation-record, start-record}
-use Rattle.reading.specs.Models.{no-model, with-equation, with-start, start-right}
+use lib.ListN.{getD, length}
+use Rattle.meaning.specs.Ranges.{typed, signatures}
+use Rattle.frames.specs.Frames.{Frame, Frames, frames}
+use Rattle.formulas.specs.Bodies.{is-body, is-fitting}
+use Rattle.reading.specs.Equations.{ranges-in, body-in, is-valid-head, start-of}
+use Rattle.reading.specs.Models.{code-of, equations-in, starts-in, is-none, first-of, model-of}
 
--- "Each answer carries number and line, both 0 on a verdict"
-abbrev pub refused : ℕ → ℕ → Reading
-refused number line = record { number = number; line = line; model = no-model }
+-- the number of the refusal, unless the test holds: then what the tests after it say; 0 is no refusal
+abbrev pub unless : Bool → ℕ → ℕ → ℕ
+unless test number others = cond test others number
 
-abbrev pub accepted : Model → Reading
-accepted m = record { number = 0; line = 0; model = m }
-
--- refusal `number` at `line`, unless the test holds
-abbrev pub unless : Bool → ℕ → ℕ → Reading → Reading
-unless true number line r = r
-unless false number line r = refused number line
-
--- go on with the model that was read, if nothing was refused
-abbrev pub then : Reading → (Model → Reading) → Reading
-then r k = cond (eqb (r .number) 0) (k (r .model)) r
-
--- ---- the frame f on line i, its first digit at place p; m is the model so far
+-- ---- the frame f, after n equations; `unstarted` where no start was read
 -- 4: "a ninth equation", "an equation .. after the start"; 5; 6
-unfoldable pub read-equation : List ℕ → Model → ℕ → ℕ → List ℕ → Reading
-read-equation t m i p f =
-    unless (not (m .started) && ltb (m .count) 8) 4 i
-    (unless (head-right (length f) (equation-record p f)) 5 i
-    (unless (is-body t (equation-record p f)) 6 i
-    (accepted (with-equation m i (equation-record p f)))))
+unfoldable pub equation-refusal : ℕ → Bool → List ℕ → ℕ
+equation-refusal n unstarted f =
+    unless (unstarted && ltb n 8) 4
+    (unless (is-valid-head f) 5
+    (unless (is-body (body-in f) (ranges-in f)) 6
+    0))
 
--- 4: "a start with no equation before it", "an equation or start after the start"; 5: "start: no equation number"
-unfoldable pub read-start : Model → ℕ → List ℕ → Reading
-read-start m i f =
-    unless (not (m .started) && ltb 0 (m .count)) 4 i
-    (unless (leb 2 (length f)) 5 i
-    (accepted (with-start m (start-record i f))))
+-- 4: "a start with no equation before it", "an equation or start after the start"; 5: "no equation number"
+unfoldable pub start-refusal : ℕ → Bool → List ℕ → ℕ
+start-refusal n unstarted f =
+    unless (unstarted && ltb 0 n) 4
+    (unless (leb 2 (length f)) 5
+    0)
 
 -- 4: "first byte not 01, 02, 03"; "`03` note: any further bytes; allowed anywhere"
-unfoldable pub read-frame : List ℕ → Model → ℕ → ℕ → List ℕ → Reading
-read-frame t m i p f =
-    cond (eqb (getD f 0 0) 0x01) (read-equation t m i p f)
-    (cond (eqb (getD f 0 0) 0x02) (read-start m i f)
-    (cond (eqb (getD f 0 0) 0x03) (accepted m)
-    (refused 4 i)))
+unfoldable pub frame-refusal : ℕ → Bool → List ℕ → ℕ
+frame-refusal n unstarted f =
+    cond (eqb (getD f 0 0) 0x01) (equation-refusal n unstarted f)
+    (cond (eqb (getD f 0 0) 0x02) (start-refusal n unstarted f)
+    (cond (eqb (getD f 0 0) 0x03) 0
+    4))
 
--- ---- the line l, number i
--- 3: not "line empty, an odd number of digits, over 512 digits, or no 0a at its end"
-abbrev pub is-shaped : Line → Bool
-is-shaped l = (l .ended && leb 1 (length (l .characters))) && (leb (length (l .characters)) 512 && eqb (length (l .characters) % 2) 0)
+-- ---- refusals with their lines: "Each answer carries number and line, both 0 on a verdict"
+pub record Refusal : Type 0 where
+  pub number : ℕ
+  pub line : ℕ
 
--- 2: "a character in the line that is no digit"; 3; then its frame, "two [digits] a byte"
-unfoldable pub read-line : List ℕ → Model → ℕ → Line → Reading
-read-line t m i l =
-    unless (all-digits (l .characters)) 2 i (unless (is-shaped l) 3 i
-    (read-frame t m i (l .place) (bytes-at t (l .place) (length (l .characters) / 2))))
+abbrev pub refused : ℕ → ℕ → Refusal
+refused number line = record { number = number; line = line }
 
--- ---- after the lines
--- 8, at the start's line
-unfoldable pub start-judged : Model → Reading
-start-judged m = unless (start-right m) 8 (m .start .line) (accepted m)
+-- 7, of each equation, at its line; `others` is what is asked after it
+unfoldable pub instances-judged : List (List ℕ) → List Frame → Refusal → Refusal
+instances-judged signatures [] others = others
+instances-judged signatures (f ∷ fs) others =
+    cond (is-fitting signatures (body-in (f .bytes)) (ranges-in (f .bytes)))
+    (instances-judged signatures fs others)
+    (refused 7 (f .line))
 
--- 7, of equation j and those after it, `left` in all; each at its line
-unfoldable pub instances-judged : List ℕ → Model → ℕ → ℕ → Reading
-instances-judged t m j zero = start-judged m
-instances-judged t m j (suc left) =
-    unless (is-fitting (m .equations) (m .count) t (getD (m .equations) j blank)) 7 (getD (m .lines) j 0)
-    (instances-judged t m (j + 1) left)
+-- 8: not "the start names no equation, has the wrong number of arguments, or one not below its range"
+unfoldable pub start-judged : List (List ℕ) → Frame → Refusal
+start-judged signatures s = cond (typed signatures (start-of (s .bytes))) (refused 0 0) (refused 8 (s .line))
 
--- 4: "no start at all (line: one more than the lines there are)", which is i
-unfoldable pub finished : List ℕ → Model → ℕ → Reading
-finished t m i = unless (m .started) 4 i (instances-judged t m 0 (m .count))
+-- 4: "no start at all (line: one more than the lines there are)", which is i; then 7 and 8
+unfoldable pub finished : List Frame → ℕ → Refusal
+finished fs i =
+    cond (is-none (starts-in fs)) (refused 4 i)
+    (instances-judged (signatures (model-of fs)) (equations-in fs)
+    (start-judged (signatures (model-of fs)) (first-of (starts-in fs))))
 
--- "Lines count from 1, notes included": the lines from number i on
-unfoldable pub read-lines : List ℕ → Model → ℕ → List Line → Reading
-read-lines t m i [] = finished t m i
-read-lines t m i (l ∷ ls) = then (read-line t m i l) (λ m. read-lines t m (i + 1) ls)
+-- the frames of some that are left, after those that are done; then the line at which they end, if it is refused
+unfoldable pub frames-judged : List Frame → List Frame → Refusal → Refusal
+frames-judged done [] end = cond (eqb (end .number) 0) (finished done (end .line)) end
+frames-judged done (f ∷ fs) end =
+    cond (eqb (frame-refusal (length (equations-in done)) (is-none (starts-in done)) (f .bytes)) 0)
+    (frames-judged (done ++ (f ∷ [])) fs end)
+    (refused (frame-refusal (length (equations-in done)) (is-none (starts-in done)) (f .bytes)) (f .line))
 
--- 1: "text over 32,768 characters (line 0)"
-unfoldable pub reading : List ℕ → Reading
-reading t = unless (leb (length t) 32768) 1 0 (read-lines t no-model 1 (lines-of 0 t))
-
--- the line that starts at place `at` of a text and ends before place `end`
-abbrev pub line-at : List ℕ → ℕ → ℕ → Line
-line-at t at end = record { place = at; characters = take (end - at) (drop at t); ended = ltb end (length t) }
+unfoldable pub text-refusal : List ℕ → Refusal
+text-refusal t = frames-judged [] (frames t .all) (refused (frames t .number) (frames t .line))

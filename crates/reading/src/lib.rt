@@ -1,18 +1,17 @@
 // The reader of model texts: any bytes in, a refusal with its line or a model out.
 ghost use mathlib.Core.Path.{_≡_};
-ghost use mathlib.Core.Bool.{true, false, cond, _&&_};
-ghost use Prim.Native.Nat.{_+_, _-_, _≤_, _<_};
+ghost use mathlib.Core.Bool.{true, false, not, _&&_};
+ghost use mathlib.Core.List.{[]};
+ghost use Prim.Native.Nat.{ℕ, _+_, _≤_, _<_};
 ghost use lib.Dec.{leb};
-ghost use lib.ListN.{length, take, drop};
+ghost use lib.ListN.{length, take, getD, replicate};
 ghost use Rattle.meaning.specs.Ranges.{all-ranges, within};
-ghost use Rattle.digits.specs.Digits.{bytes-at};
-ghost use Rattle.formulas.specs.Bodies.{ranges-of, is-fitting};
-ghost use Rattle.reading.specs.Lines.{first-length, all-digits};
-ghost use Rattle.reading.specs.Frames.{range-of, equation-record, head-right, start-record};
-ghost use Rattle.reading.specs.Models.{no-model, with-equation, with-start, start-right};
-ghost use Rattle.reading.specs.Reading.{refused, accepted, read-equation, read-start, read-frame};
-ghost use Rattle.reading.specs.Reading.{is-shaped, read-line, line-at, finished};
-ghost use Rattle.reading.specs.Reading.{start-judged, instances-judged, reading};
+ghost use Rattle.formulas.specs.Bodies.{blank, ranges-of};
+ghost use Rattle.reading.specs.Contract.{is-head, with-equation, with-start, with-frame, body-kept};
+ghost use Rattle.reading.specs.Contract.{is-start, FirstMisfit, Finishes, LinesRead, stopped};
+ghost use Rattle.reading.specs.Equations.{range-of};
+ghost use Rattle.reading.specs.Reading.{equation-refusal, start-refusal, frame-refusal};
+ghost use Rattle.reading.specs.Records.{equation-record, start-record, model-record, reading};
 use formulas::Equation;
 
 // A start's line, its equation, how many arguments it has, and the first four of them.
@@ -33,15 +32,23 @@ pub struct Model {
     pub start: Start,
 }
 
-// Number and line are 0 where the model was read.
+// Number and line are 0 where the model was read; the body of equation j stands from 256 * j on of `bodies`.
 pub struct Reading {
     pub number: u8,
     pub line: usize,
     pub model: Model,
+    pub bodies: [u8; 2048],
+}
+
+// What the lines give: a refusal, or a model.
+struct Outcome {
+    number: u8,
+    line: usize,
+    model: Model,
 }
 
 fn no_model() -> Model
-    ensures { λ r. ⌜ r ≡ no-model ⌝ }
+    ensures { λ r. ⌜ ((place : ℕ → ℕ) → r ≡ model-record place [] []) ⌝ }
 {
     let e = Equation {
         sign: 0,
@@ -65,95 +72,51 @@ fn no_model() -> Model
     }
 }
 
-fn refuse(number: u8, line: usize) -> Reading
-    ensures { λ r. ⌜ r ≡ refused number line ⌝ }
+fn stop(number: u8, line: usize) -> Outcome
+    ensures { λ r. ⌜ r ≡ stopped number line ⌝ }
 {
-    Reading {
+    Outcome {
         number,
         line,
         model: no_model(),
     }
 }
 
-fn accept(m: Model) -> Reading
-    ensures { λ r. ⌜ r ≡ accepted m ⌝ }
-{
-    Reading {
-        number: 0,
-        line: 0,
-        model: m,
-    }
-}
-
-// Where the line that starts at `at` ends: at its 0a, or at the end of the text.
-fn line_end(text: &[u8], at: usize) -> usize
-    requires { ⌜ at ≤ length (now text) ⌝ }
-    ensures { λ r. ⌜ (r ≡ at + first-length (drop at (now (text .entry)))) ×
-        ((at ≤ r) × (r ≤ length (now (text .entry)))) ⌝ }
-{
-    let mut i = at;
-    while i < text.len() {
-        if text[i] == 10 {
-            break;
-        }
-        i += 1;
-    }
-    i
-}
-
-// Whether all from `at` up to `end` are digits.
-fn all_digits(text: &[u8], at: usize, end: usize) -> bool
-    requires { ⌜ (at ≤ end) × (end ≤ length (now text)) ⌝ }
-    ensures { λ r. ⌜ r ≡ all-digits (take (end - at) (drop at (now (text .entry)))) ⌝ }
-{
-    let mut i = at;
-    while i < end {
-        if 15 < digits::worth(text[i]) {
-            return false;
-        }
-        i += 1;
-    }
-    true
-}
-
 // ---- heads
 
-fn range_of(text: &[u8], place: usize, size: usize, i: usize) -> u8
+fn range_of(frame: &[u8], i: usize) -> u8
     requires { ⌜ i < 4 ⌝ }
-    ensures { λ r. ⌜ r ≡ range-of (bytes-at (now (text .entry)) place size) i ⌝ }
+    ensures { λ r. ⌜ r ≡ range-of (now (frame .entry)) i ⌝ }
 {
-    let k = basics::wide(digits::byte(text, place, size, 2));
+    let k = basics::wide(basics::element(frame, 2));
     if i < k {
-        digits::byte(text, place, size, 3 + i)
+        basics::element(frame, 3 + i)
     } else {
         1
     }
 }
 
-// The record of an equation's frame, of `size` bytes, whose first digit stands at `place`.
-fn equation_record(text: &[u8], place: usize, size: usize) -> Equation
-    requires { ⌜ place ≤ length (now text) ⌝ }
-    ensures { λ r. ⌜ r ≡ equation-record place (bytes-at (now (text .entry)) place size) ⌝ }
+// The record of an equation's frame whose first digit stands at `place`.
+fn equation_record(frame: &[u8], place: usize) -> Equation
+    requires { ⌜ place ≤ 32768 ⌝ }
+    ensures { λ r. ⌜ r ≡ equation-record place (now (frame .entry)) ⌝ }
 {
-    let sign = digits::byte(text, place, size, 1);
-    let k = digits::byte(text, place, size, 2);
-    let r0 = range_of(text, place, size, 0);
-    let r1 = range_of(text, place, size, 1);
-    let r2 = range_of(text, place, size, 2);
-    let r3 = range_of(text, place, size, 3);
+    let k = basics::element(frame, 2);
+    let r0 = range_of(frame, 0);
+    let r1 = range_of(frame, 1);
+    let r2 = range_of(frame, 2);
+    let r3 = range_of(frame, 3);
     let head = 3 + basics::wide(k);
-    let body = place + 2 * head;
-    let left = basics::rest(size, head);
     Equation {
-        sign,
+        sign: basics::element(frame, 1),
         k,
         ranges: [r0, r1, r2, r3],
-        place: body,
-        length: left,
+        place: place + 2 * head,
+        length: basics::rest(frame.len(), head),
     }
 }
 
-fn ranges_right(r: [u8; 4]) -> bool
+fn are_ranges(r: [u8; 4]) -> bool
     ensures { λ b. ⌜ b ≡ all-ranges r ⌝ }
 {
     let a = formulas::is_range(r[0]);
@@ -163,40 +126,78 @@ fn ranges_right(r: [u8; 4]) -> bool
     basics::and(a, basics::and(b, basics::and(c, d)))
 }
 
-fn head_right(size: usize, e: Equation) -> bool
-    ensures { λ r. ⌜ r ≡ head-right size e ⌝ }
+// Whether a frame of `size` bytes with this record has a valid head.
+fn is_valid_head(size: usize, e: Equation) -> bool
+    ensures { λ r. ⌜ r ≡ is-head size e ⌝ }
 {
     let head = 3 + basics::wide(e.k);
     let ranges = e.ranges;
-    let r = ranges_right(ranges);
+    let r = are_ranges(ranges);
     basics::and(
         head <= size,
         basics::and(e.sign <= 1, basics::and(e.k <= 4, r)),
     )
 }
 
-fn start_record(text: &[u8], place: usize, size: usize, line: usize) -> Start
-    ensures { λ r. ⌜ r ≡ start-record line (bytes-at (now (text .entry)) place size) ⌝ }
+fn start_record(frame: &[u8], line: usize) -> Start
+    ensures { λ r. ⌜ r ≡ start-record line (now (frame .entry)) ⌝ }
 {
-    let equation = digits::byte(text, place, size, 1);
-    let a0 = digits::byte(text, place, size, 2);
-    let a1 = digits::byte(text, place, size, 3);
-    let a2 = digits::byte(text, place, size, 4);
-    let a3 = digits::byte(text, place, size, 5);
-    let count = basics::rest(size, 2);
+    let a0 = basics::element(frame, 2);
+    let a1 = basics::element(frame, 3);
+    let a2 = basics::element(frame, 4);
+    let a3 = basics::element(frame, 5);
     Start {
         line,
-        equation,
-        count,
+        equation: basics::element(frame, 1),
+        count: basics::rest(frame.len(), 2),
         arguments: [a0, a1, a2, a3],
     }
 }
 
-fn instances_right(text: &[u8], m: Model, e: Equation) -> bool
-    ensures { λ r. ⌜ r ≡ is-fitting (m .equations) (m .count) (now (text .entry)) e ⌝ }
+// ---- the refusal of a frame, after `count` equations and perhaps the start
+
+fn equation_refusal(frame: &[u8], count: usize, started: bool) -> u8
+    ensures { λ r. ⌜ r ≡ equation-refusal count (not started) (now (frame .entry)) ⌝ }
 {
-    let equations = m.equations;
-    formulas::is_fitting(text, e, equations, m.count)
+    if started {
+        return 4;
+    }
+    if 8 <= count {
+        return 4;
+    }
+    let e = equation_record(frame, 0);
+    if !is_valid_head(frame.len(), e) {
+        return 5;
+    }
+    let head = 3 + basics::wide(e.k);
+    if !formulas::is_body(&frame[head..], e) {
+        return 6;
+    }
+    0
+}
+
+fn start_refusal(frame: &[u8], count: usize, started: bool) -> u8
+    ensures { λ r. ⌜ r ≡ start-refusal count (not started) (now (frame .entry)) ⌝ }
+{
+    if started {
+        return 4;
+    }
+    if count == 0 {
+        return 4;
+    }
+    if frame.len() < 2 { 5 } else { 0 }
+}
+
+fn frame_refusal(frame: &[u8], count: usize, started: bool) -> u8
+    ensures { λ r. ⌜ r ≡ frame-refusal count (not started) (now (frame .entry)) ⌝ }
+{
+    let code = basics::element(frame, 0);
+    match code {
+        1 => equation_refusal(frame, count, started),
+        2 => start_refusal(frame, count, started),
+        3 => 0,
+        _ => 4,
+    }
 }
 
 // ---- the model as it grows
@@ -222,85 +223,58 @@ fn with_start(m: Model, s: Start) -> Model
     x
 }
 
-// ---- lines
-
-fn read_equation(text: &[u8], m: Model, line: usize, place: usize, size: usize) -> Reading
-    requires { ⌜ place ≤ length (now text) ⌝ }
-    ensures { λ r. ⌜ r ≡ read-equation (now (text .entry)) m line place
-        (bytes-at (now (text .entry)) place size) ⌝ }
+// The model with a frame that is not refused, of the line that begins at `place`.
+fn with_frame(m: Model, frame: &[u8], line: usize, place: usize) -> Model
+    requires { ⌜ (place ≤ 32768) × (getD (now frame) 0 0 ≡ 1 → m .count < 8) ⌝ }
+    ensures { λ r. ⌜ r ≡ with-frame m line place (now (frame .entry)) ⌝ }
 {
-    if m.started {
-        return refuse(4, line);
-    }
-    if 8 <= m.count {
-        return refuse(4, line);
-    }
-    let e = equation_record(text, place, size);
-    if !head_right(size, e) {
-        return refuse(5, line);
-    }
-    if !formulas::is_body(text, e) {
-        return refuse(6, line);
-    }
-    accept(with_equation(m, line, e))
-}
-
-fn read_start(text: &[u8], m: Model, line: usize, place: usize, size: usize) -> Reading
-    ensures { λ r. ⌜ r ≡ read-start m line (bytes-at (now (text .entry)) place size) ⌝ }
-{
-    if m.started {
-        return refuse(4, line);
-    }
-    if m.count == 0 {
-        return refuse(4, line);
-    }
-    if size < 2 {
-        return refuse(5, line);
-    }
-    accept(with_start(m, start_record(text, place, size, line)))
-}
-
-fn read_frame(text: &[u8], m: Model, line: usize, place: usize, size: usize) -> Reading
-    requires { ⌜ place ≤ length (now text) ⌝ }
-    ensures { λ r. ⌜ r ≡ read-frame (now (text .entry)) m line place
-        (bytes-at (now (text .entry)) place size) ⌝ }
-{
-    let code = digits::byte(text, place, size, 0);
+    let code = basics::element(frame, 0);
     match code {
-        1 => read_equation(text, m, line, place, size),
-        2 => read_start(text, m, line, place, size),
-        3 => accept(m),
-        _ => refuse(4, line),
+        1 => with_equation(m, line, equation_record(frame, place)),
+        2 => with_start(m, start_record(frame, line)),
+        _ => m,
     }
 }
 
-// Whether a line from `at` up to `end` is ended by 0a, is not empty, and has an even number of characters, at
-// most 512.
-fn is_shaped(text: &[u8], at: usize, end: usize) -> bool
-    requires { ⌜ (at ≤ end) × (end ≤ length (now text)) ⌝ }
-    ensures { λ r. ⌜ r ≡ is-shaped (line-at (now (text .entry)) at end) ⌝ }
+// Keeps the body of a frame as that of equation j, where the frame is an equation's.
+fn keep_body(bodies: &mut [u8], frame: &[u8], j: usize)
+    requires { ⌜ (length (now frame) ≤ 256) × (getD (now frame) 0 0 ≡ 1 → j < 8) ×
+        (length (now bodies) ≡ 2048) ⌝ }
+    ensures { λ _. ⌜ now (bodies .exit) ≡ body-kept (now (bodies .entry)) j (now (frame .entry)) ⌝ }
 {
-    let size = end - at;
-    let whole = basics::and(end < text.len(), 1 <= size);
-    let even = size % 2 == 0;
-    basics::and(whole, basics::and(size <= 512, even))
-}
-
-fn read_line(text: &[u8], m: Model, line: usize, at: usize, end: usize) -> Reading
-    requires { ⌜ (at ≤ end) × (end ≤ length (now text)) ⌝ }
-    ensures { λ r. ⌜ r ≡ read-line (now (text .entry)) m line (line-at (now (text .entry)) at end) ⌝ }
-{
-    if !all_digits(text, at, end) {
-        return refuse(2, line);
+    if basics::element(frame, 0) != 1 {
+        return;
     }
-    if !is_shaped(text, at, end) {
-        return refuse(3, line);
+    let head = 3 + basics::wide(basics::element(frame, 2));
+    let mut from = head;
+    let mut to = 256 * j;
+    while from < frame.len() {
+        bodies[to] = frame[from];
+        from += 1;
+        to += 1;
     }
-    let size = (end - at) / 2;
-    read_frame(text, m, line, at, size)
 }
 
 // ---- after the lines
+
+// The number of the first equation whose instances do not fit; that of all equations, where all fit.
+fn first_misfit(bodies: &[u8], m: Model) -> usize
+    requires { ⌜ (m .count ≤ 8) × (length (m .equations) ≡ 8) × (length (now bodies) ≡ 2048) ×
+        ((j : ℕ) → j < m .count → getD (m .equations) j blank .length ≤ 256) ⌝ }
+    ensures { λ r. ⌜ FirstMisfit m (now (bodies .entry)) r ⌝ }
+{
+    let mut j = 0;
+    while j < m.count {
+        let e = m.equations[j];
+        let first = 256 * j;
+        let end = first + e.length;
+        if !formulas::is_fitting(&bodies[first..end], e, m.equations, m.count) {
+            return j;
+        }
+        j += 1;
+    }
+    j
+}
 
 // Whether there are as many arguments as e has parameters, each below its range.
 fn start_fits(s: Start, e: Equation) -> bool
@@ -317,9 +291,9 @@ fn start_fits(s: Start, e: Equation) -> bool
     basics::and(s.count == k, all)
 }
 
-fn start_right(m: Model) -> bool
+fn is_valid_start(m: Model) -> bool
     requires { ⌜ (m .count ≤ 8) × (length (m .equations) ≡ 8) ⌝ }
-    ensures { λ r. ⌜ r ≡ start-right m ⌝ }
+    ensures { λ r. ⌜ r ≡ is-start m ⌝ }
 {
     let s = m.start;
     let i = basics::wide(s.equation);
@@ -330,61 +304,81 @@ fn start_right(m: Model) -> bool
     start_fits(s, e)
 }
 
-fn judge_start(m: Model) -> Reading
-    requires { ⌜ (m .count ≤ 8) × (length (m .equations) ≡ 8) ⌝ }
-    ensures { λ r. ⌜ r ≡ start-judged m ⌝ }
-{
-    if !start_right(m) {
-        let s = m.start;
-        return refuse(8, s.line);
-    }
-    accept(m)
-}
-
-fn judge_instances(text: &[u8], m: Model) -> Reading
-    requires { ⌜ (m .count ≤ 8) × (length (m .equations) ≡ 8) ⌝ }
-    ensures { λ r. ⌜ r ≡ instances-judged (now (text .entry)) m 0 (m .count) ⌝ }
-{
-    let mut j = 0;
-    while j < m.count {
-        let e = m.equations[j];
-        if !instances_right(text, m, e) {
-            return refuse(7, m.lines[j]);
-        }
-        j += 1;
-    }
-    judge_start(m)
-}
-
-fn finish(text: &[u8], m: Model, line: usize) -> Reading
-    requires { ⌜ (m .count ≤ 8) × (length (m .equations) ≡ 8) ⌝ }
-    ensures { λ r. ⌜ r ≡ finished (now (text .entry)) m line ⌝ }
+// The missing start, at the line after the last; then 7 by line; then 8.
+fn finish(bodies: &[u8], m: Model, line: usize) -> Outcome
+    requires { ⌜ (m .count ≤ 8) × (length (m .equations) ≡ 8) × (length (now bodies) ≡ 2048) ×
+        ((j : ℕ) → j < m .count → getD (m .equations) j blank .length ≤ 256) × (length (m .lines) ≡ 8) ⌝ }
+    ensures { λ r. ⌜ Finishes m (now (bodies .entry)) line r ⌝ }
 {
     if !m.started {
-        return refuse(4, line);
+        return stop(4, line);
     }
-    judge_instances(text, m)
+    let j = first_misfit(bodies, m);
+    if j < m.count {
+        return stop(7, m.lines[j]);
+    }
+    if !is_valid_start(m) {
+        let s = m.start;
+        return stop(8, s.line);
+    }
+    Outcome {
+        number: 0,
+        line: 0,
+        model: m,
+    }
 }
 
-pub fn read_model(text: &[u8]) -> Reading
-    ensures { λ r. ⌜ r ≡ reading (now (text .entry)) ⌝ }
+// The lines of a text, from the top; the bodies of its equations are kept.
+fn read_lines(text: &[u8], bodies: &mut [u8]) -> Outcome
+    requires { ⌜ now bodies ≡ replicate 2048 0 ⌝ }
+    ensures { λ r. ⌜ LinesRead (now (text .entry)) (now (bodies .exit)) r ⌝ }
 {
     if 32768 < text.len() {
-        return refuse(1, 0);
+        return stop(1, 0);
     }
     let mut m = no_model();
     let mut at = 0;
     let mut line = 1;
     while at < text.len() {
-        let end = line_end(text, at);
-        let r = read_line(text, m, line, at, end);
-        if r.number != 0 {
-            return r;
+        let f = frames::frame_at(text, at);
+        if f.number != 0 {
+            return stop(f.number, line);
         }
-        let next = r.model;
+        let frame = f.bytes;
+        let size = f.size;
+        let number = frame_refusal(&frame[..size], m.count, m.started);
+        if number != 0 {
+            return stop(number, line);
+        }
+        keep_body(bodies, &frame[..size], m.count);
+        let next = with_frame(m, &frame[..size], line, at);
         m = next;
-        at = end + 1;
+        at = f.end + 1;
         line += 1;
     }
-    finish(text, m, line)
+    finish(bodies, m, line)
+}
+
+pub fn read_model(text: &[u8]) -> Reading
+    ensures { λ r. ⌜ r ≡ reading (now (text .entry)) ⌝ }
+{
+    let mut bodies = [0u8; 2048];
+    let r = read_lines(text, &mut bodies);
+    let number = r.number;
+    let line = r.line;
+    let model = r.model;
+    if number != 0 {
+        return Reading {
+            number,
+            line,
+            model,
+            bodies: [0; 2048],
+        };
+    }
+    Reading {
+        number,
+        line,
+        model,
+        bodies,
+    }
 }

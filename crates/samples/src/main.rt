@@ -34,8 +34,8 @@ fn turn() -> bool {
     if got < 9 {
         return false;
     }
-    let high = digits::byte(&head, 0, 4, 2);
-    let low = digits::byte(&head, 0, 4, 3);
+    let high = digits::byte(&head, 2);
+    let low = digits::byte(&head, 3);
     let size = basics::wide(high) * 256 + basics::wide(low);
     let mut buffer = io::large_buffer();
     answer_first(&mut buffer, size);

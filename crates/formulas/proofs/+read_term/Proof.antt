@@ -4,11 +4,15 @@ mod Frame
 use Frame.*
 use Prim.Native.Nat.{ℕ, _+_}
 use native.Mathlib.Omega.{arith}
-use mathlib.Core.Path.{sym, ap, _∙_}
+use native.Mathlib.Numerals.{add-one}
+use mathlib.Core.Path.{_≡_, refl, sym, ap, _∙_}
+use lib.ListN.{getD}
 use borrow.Author.Needs.{needs}
 use borrow.Author.Tests.{not-true, not-false}
+use Rattle.meaning.specs.Ranges.{term-range}
 use Rattle.formulas.specs.Codes.{term-kind-of, operands-of}
-use Rattle.formulas.proofs.Terms as law
+use Rattle.formulas.specs.Shapes.{term-operands}
+use Rattle.formulas.proofs.ByKind as law
 use Rattle.formulas.proofs.+read_term as cycle
 use Rattle.formulas.proofs.+read_term.Lts-read_term as term
 
@@ -21,54 +25,66 @@ module _ (t : ℕ) where
     abbrev start : term.Start (term-calls t) (term-at t) term-post
     start = coded .before .before .before
 
-    head : law.Head (start .args .body .now) (start .args .at) (c .before .before .before .element2 .result)
-        (start .args .at + (1 + c .before .wide .result)) (c .term-kind-of .result)
+    abbrev code : ℕ
+    code = getD (start .args .body .now) (start .args .at) 0
+
+    head : law.TermHead (start .args .body .now) (start .args .at) (c .before .before .before .element2 .result)
+        (c .term-kind-of .result)
     head = record {
       inside = coded .before .if1 .left;
       byte = c .before .before .before .element2 .ensures;
-      ends = ap (λ (n : ℕ). start .args .at + (1 + n)) (c .before .wide .ensures .0 ∙
-          c .before .before .operands-of .ensures ∙ ap operands-of (coded .element .ensures));
       named = c .term-kind-of .ensures ∙ ap term-kind-of (coded .element .ensures);
     }
 
+    -- where one operand ends
+    ends : operands-of code ≡ 1 → start .args .at + (1 + c .before .wide .result) ≡ start .args .at + 2
+    ends one =
+        let n = c .before .wide .ensures .0 ∙ c .before .before .operands-of .ensures in
+        omega (arith, n ∙ ap operands-of (coded .element .ensures) ∙ one)
+
   past-the-end : term.Need-returns (term-calls t) (term-at t) term-post
-  past-the-end c = law.term-answer (c .term-result .ensures) (law.term-past (c .before .if1 .taken))
+  past-the-end c = rw (c .term-result .ensures) (law.term-past (c .before .if1 .taken))
 
   no-term : term.Need-returns-6 (term-calls t) (term-at t) term-post
   no-term c =
-      law.term-answer (c .term-result2 .ensures)
-      (law.term-none (head (c .before .before .before)) (c .before .enum-told .given .1))
+      rw (c .term-result2 .ensures) (law.term-none (head (c .before .before .before)) (c .before .enum-told .given .1))
 
   no-number : term.Need-returns-2 (term-calls t) (term-at t) term-post
   no-number c =
       let arm = c .before .before in
-      law.term-answer (c .term-result3 .ensures)
+      rw (c .term-result3 .ensures)
       (law.term-number-no (head (arm .before .before)) (arm .enum-told2 .given .1) (c .before .if2 .taken))
 
   a-number : term.Need-returns-7 (term-calls t) (term-at t) term-post
+  unfolding term-range
   a-number c =
       let arm = c .before .before in
-      law.term-answer (c .term-result4 .ensures)
-      (law.term-number (head (arm .before .before)) (arm .enum-told2 .given .1) (c .before .if2 .left))
+      let h = head (arm .before .before) in
+      let kind = arm .enum-told2 .given .1 in
+      rw (c .term-result4 .ensures) (law.term-number h kind (c .before .if2 .left) (add-one _)
+      (ends (arm .before .before) (term-operands _ 1 (sym (h .named) ∙ kind) refl)))
 
   out-of-reach : term.Need-returns-3 (term-calls t) (term-at t) term-post
   out-of-reach c =
       let wide = c .before .before .before in
-      law.term-answer (c .term-result5 .ensures)
+      rw (c .term-result5 .ensures)
       (law.term-variable-no (head (wide .before .before .before)) (wide .before .enum-told3 .given .1)
       (rw (wide .wide2 .ensures .0) at (c .before .if3 .taken)))
 
   a-variable : term.Need-returns-8 (term-calls t) (term-at t) term-post
+  unfolding term-range
   a-variable c =
       let wide = c .before .before .before .before in
-      law.term-answer (c .term-result6 .ensures)
-      (law.term-variable (head (wide .before .before .before)) (wide .before .enum-told3 .given .1)
-      (rw (wide .wide2 .ensures .0) at (c .before .before .if3 .left)) (c .before .item .ensures))
+      let h = head (wide .before .before .before) in
+      let kind = wide .before .enum-told3 .given .1 in
+      rw (c .term-result6 .ensures)
+      (law.term-variable h kind (rw (wide .wide2 .ensures .0) at (c .before .before .if3 .left)) (c .before .item .ensures)
+      (ends (wide .before .before .before) (term-operands _ 1 (sym (h .named) ∙ kind) refl)))
 
   no-range : term.Need-returns-4 (term-calls t) (term-at t) term-post
   no-range c =
       let arm = c .before .before .before in
-      law.term-answer (c .term-result7 .ensures)
+      rw (c .term-result7 .ensures)
       (law.term-calculation-no (head (arm .before .before)) (arm .enum-told4 .given .1)
       (sym (c .before .before .is-range .ensures) ∙ not-true _ (c .before .if4 .taken)))
 
@@ -76,19 +92,21 @@ module _ (t : ℕ) where
   stopped c =
       let first = c .before .before .before in
       let arm = first .before .before .before in
-      law.term-answer (c .term-result8 .ensures)
-      (law.term-calculation-stop (head (arm .before .before)) (arm .enum-told4 .given .1)
+      rw (c .term-result8 .ensures)
+      (law.term-calculation (head (arm .before .before)) (arm .enum-told4 .given .1)
       (sym (first .before .before .is-range .ensures) ∙ not-false _ (first .before .if4 .left))
-      (first .read-term .ensures) (not-true _ (c .before .if5 .taken)))
+      (law.terms-stop (omega arith) (first .read-term .ensures) (not-true _ (c .before .if5 .taken))) (λ _. absurd))
 
   a-calculation : term.Need-returns-9 (term-calls t) (term-at t) term-post
+  unfolding term-range
   a-calculation c =
       let first = c .before .before .before .before in
       let arm = first .before .before .before in
-      law.term-answer (c .term-result9 .ensures)
+      rw (c .term-result9 .ensures)
       (law.term-calculation (head (arm .before .before)) (arm .enum-told4 .given .1)
       (sym (first .before .before .is-range .ensures) ∙ not-false _ (first .before .if4 .left))
-      (first .read-term .ensures) (not-false _ (c .before .before .if5 .left)) (c .before .read-term2 .ensures))
+      (law.two-terms (first .read-term .ensures) (not-false _ (c .before .before .if5 .left))
+      (c .before .read-term2 .ensures)) (λ _ _. refl))
 
 pub +read-term-spec : {M : Type 1} → cycle.statement M
 +read-term-spec =
@@ -101,5 +119,5 @@ pub +read-term-spec : {M : Type 1} → cycle.statement M
     (λ c. search needs) (λ c κs. search needs) (λ c κs. search needs) (out-of-reach t) (λ c κs. search needs)
     (λ c κs. search needs) (λ c. search needs) (λ c κs. search needs) (λ c κs. search needs) (no-range t)
     (λ c. search needs) (λ c κs. omega arith) (λ c κs. search needs) (stopped t)
-    (λ c κs. omega (arith, c .before .before .read-term .ensures .on)) (λ c κs. search needs)
-    (no-term t) (a-number t) (a-variable t) (a-calculation t))
+    (λ c κs. omega (arith, law.term-on (c .before .before .read-term .ensures) (not-false _ (c .if5 .left))))
+    (λ c κs. search needs) (no-term t) (a-number t) (a-variable t) (a-calculation t))

@@ -1,7 +1,7 @@
 -- `formulas::is_range` meets its contract.
 -- Both tests hold.
 use mathlib.Core.Path.{_∙_}
-use Rattle.formulas.proofs.Told.{and-same}
+use Rattle.formulas.proofs.Fitting.{and-same}
 use borrow.Author.Needs.{needs}
 use Rattle.formulas.proofs.is_range.Statement.{statement}
 use Rattle.formulas.proofs.is_range.Tie as tie

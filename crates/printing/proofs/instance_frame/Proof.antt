@@ -1,44 +1,39 @@
 -- `printing::instance_frame` meets its contract.
--- The value is stored after the arguments, by cases on how many there are.
-use Prim.Native.Nat.{_/_, _%_}
-use mathlib.Core.Path.{_≡_, refl}
-use mathlib.Core.Bool.{Bool, true, false}
-use mir.Val.{boolByte}
-use Rattle.meaning.specs.WordLaws.{arguments-of}
-use Rattle.answers.specs.Answers.{bit}
-use Rattle.printing.specs.Lines.{word-frame}
-use Rattle.printing.proofs.Stores.{value-after}
+-- The value is stored after the arguments, as many as the equation has parameters.
+use Prim.Native.Nat.{ℕ, _≤_}
+use native.Mathlib.Omega.{arith}
+use mathlib.Core.Path.{_≡_, ap, _∙_}
+use lib.ListN.{getD}
+use Rattle.formulas.specs.declared.Tuple.{Tuple}
+use Rattle.formulas.specs.Bodies.{blank}
+use Rattle.words.specs.Unpacked.{argument-tuple, argument-count}
+use Rattle.printing.specs.Lines.{parameters-of}
+use Rattle.printing.proofs.Stores.{frame-stored}
 use borrow.Author.Needs.{needs}
 use Rattle.printing.proofs.instance_frame.Statement.{statement}
 use Rattle.printing.proofs.instance_frame.Tie as tie
 
-as-byte : (b : Bool) → boolByte b ≡ bit b
-as-byte true = refl
-as-byte false = refl
+module _ (c : tie.After-arguments-of) where
+  abbrev start : tie.Start
+  start = c .before .before .before
+
+  unpacked : c .arguments-of .result ≡ argument-tuple (start .args .word) (parameters-of (start .args .t1) (start .args .word))
+  unpacked = c .arguments-of .ensures
+      ∙ ap (λ (e : ℕ). argument-tuple (start .args .word) (getD (start .args .t1) e blank .k)) (c .before .before .equation-of .ensures)
+
+  few : c .arguments-of .result .count ≤ 4
+  few =
+      let count = ap (λ (x : Tuple). x .count) unpacked ∙ argument-count _ _ in
+      omega arith
 
 returns : tie.Need-returns
-unfolding word-frame arguments-of
 returns c =
-    let w = c .before .before .args .word in
-    let k = c .wide .ensures .0 in
-    let few = c .before .before .pre .1 in
-    (rw (k, as-byte (c .before .before .args .value)) (value-after _ (w / 65536) (w / 4096 % 16) (w / 256 % 16) (w / 16 % 16) (w % 16) _ few), rw k refl)
+    let s = c .before in
+    frame-stored (start s .args .word) _ (start s .args .value) (s .before .before .equation-of .ensures) (unpacked s) (start s .pre .1)
 
 pub instance-frame-spec : {M : Type 1} → statement M
 instance-frame-spec =
     tie.close
-    (tie.spec
-    (λ c. search needs)
-    (λ c. search needs)
-    (λ c. search needs)
-    (λ c κs. search needs)
-    (λ c. search needs)
-    (λ c. search needs)
-    (λ c. search needs)
-    (λ c. search needs)
-    (λ c. search needs)
-    (λ c. search needs)
-    (λ c. search needs)
-    (λ c. search needs)
-    (λ c. search needs)
-    returns)
+    (tie.spec (λ c κs. tt) (λ c. search needs) (λ c. search needs) (λ c κs. tt) (λ c. search needs)
+    (λ c. search needs) (λ c. search needs) (λ c. search needs) (λ c. search needs) (λ c. search needs)
+    (λ c. omega (arith, few (c .before))) (λ c. omega (arith, few (c .before))) (λ c. omega (arith, few (c .before))) returns)

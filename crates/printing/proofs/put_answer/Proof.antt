@@ -13,7 +13,7 @@ use Rattle.printing.proofs.put_answer.Tie as tie
 returns : tie.Need-returns
 returns c =
     let a = c .before .before .before .before .before .before .before .before .before .before .args in
-    let put = c .before .before .put-line in
+    let put = c .before .before .put-frame in
     let frame = c .before .before .before .refusal-frame in
     let wrong = c .before .before .before .before .before .if1 .taken in
     refused (a .words .now) (a .e) (a .out .now) (bytes-of (frame .result)) (put .last .0) (put .result) wrong (frame .ensures .0) (put .ensures)
@@ -34,8 +34,8 @@ put-instances-requires c κs =
     let n = length-take-le (start .args .e .answer .reached) words (few .1) in
     (start .pre .0 .readable right, (omega arith, omega (arith, start .pre .1)))
 
-put-line-requires-2 : tie.Need-put-line-requires-2
-put-line-requires-2 c κs =
+put-frame-requires-2 : tie.Need-put-frame-requires-2
+put-frame-requires-2 c κs =
     let start = c .before .before .before .before .before .before .before .before .before .before .before .before .before .before .before in
     let e = start .args .e in
     let words = start .args .words .now in
@@ -51,7 +51,7 @@ returns-2 c =
     let right = c .before .before .before .before .before .before .before .before .before .before .before .before .before .if1 .left in
     let instances = c .before .before .before .before .before .before .before .put-instances in
     let frame = c .before .before .before .verdict-frame in
-    let put = c .before .before .put-line2 in
+    let put = c .before .before .put-frame2 in
     told (a .words .now) (a .e) (a .out .now) (bytes-of (frame .result)) (instances .last .0) (put .last .0) (instances .result) (put .result)
     right (frame .ensures .0) (instances .ensures) (put .ensures)
 
@@ -66,6 +66,6 @@ put-answer-spec =
     slice-aggregate-put-instances
     put-instances-requires
     (λ c κs. search needs)
-    put-line-requires-2
+    put-frame-requires-2
     (λ c. search needs)
     returns-2)

@@ -8,9 +8,12 @@ use lib.ListN.{length, getD, drop, length-take}
 use lib.Seq.{sets, drop-length}
 use Rattle.formulas.specs.declared.Equation.{Equation}
 use Rattle.truth.specs.Bits.{bit-of}
-use Rattle.answers.specs.Printed.{line-of}
-use Rattle.printing.specs.Lines.{Puts, bytes-of, parameters-of, word-frame, lines-of, Readable}
-use Rattle.printing.proofs.Stores.{line-length, line-then, lines-more}
+use Rattle.frames.specs.Frames.{line-of}
+use Rattle.frames.specs.PutLine.{Puts}
+use Rattle.printing.specs.Lines.{bytes-of, parameters-of, word-frame, lines-of, Readable}
+use Rattle.frames.specs.Written.{line-length}
+use Rattle.frames.proofs.Stores.{line-then}
+use Rattle.printing.proofs.Stores.{lines-more}
 use borrow.Author.Needs.{needs}
 use native.Mathlib.Omega.{arith}
 use Rattle.printing.proofs.put_instances.Statement.{statement}
@@ -64,9 +67,9 @@ instance-frame-requires : tie.Need-instance-frame-requires Inv-loop μ-loop
 unfolding Readable
 instance-frame-requires c κs = c .before .before .before .before .before .before .pre .0 (c .before .before .before .loop .j) (c .before .before .loop-test .taken)
 
-put-line-requires : tie.Need-put-line-requires Inv-loop μ-loop
+put-frame-requires : tie.Need-put-frame-requires Inv-loop μ-loop
 unfolding Readable
-put-line-requires c κs =
+put-frame-requires c κs =
     let loop = c .before .before .before .before .before .loop in
     let less = c .before .before .before .before .loop-test .taken in
     let few = c .before .before .before .before .before .before .before .before .pre .0 (loop .j) less .1 in
@@ -79,7 +82,7 @@ loop-again c =
     let loop = c .before .before .before .before .before .before .before .before .loop in
     let a = c .before .before .before .before .before .before .before .before .before .before .before .args in
     let frame = c .before .before .before .before .instance-frame in
-    let put = c .before .before .put-line in
+    let put = c .before .before .put-frame in
     let less = c .before .before .before .before .before .before .before .loop-test .taken in
     let few = c .before .before .before .before .before .before .before .before .before .before .before .pre .0 (loop .j) less .1 in
     let short = length-take (frame .result .count) (frame .result .bytes) in
@@ -108,7 +111,7 @@ put-instances-spec =
     (λ c. omega arith)
     (λ c κs. search needs)
     instance-frame-requires
-    put-line-requires
+    put-frame-requires
     (λ c. omega arith)
     (λ c. omega arith)
     loop-again

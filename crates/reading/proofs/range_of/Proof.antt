@@ -1,22 +1,22 @@
 -- `reading::range_of` meets its contract.
--- A range is given or absent.
-use mathlib.Core.Path.{_∙_}
-use Rattle.digits.specs.Digits.{bytes-at}
-use Rattle.reading.proofs.Heads.{range-given, range-absent}
+-- An absent range is 1.
+use mathlib.Core.Path.{refl}
+use borrow.Author.Tests.{lt-ltb, le-ltb}
 use borrow.Author.Needs.{needs}
 use Rattle.reading.proofs.range_of.Statement.{statement}
 use Rattle.reading.proofs.range_of.Tie as tie
 
 returns : tie.Need-returns
 returns c =
-    let a = c .before .before .before .before .before .args in
-    c .byte2 .ensures ∙ range-given (bytes-at (a .text .now) (a .place) (a .size)) (a .i) (c .before .before .wide .ensures .0 ∙ c .before .before .before .byte .ensures)
-    (c .before .if1 .taken)
+    let k = c .before .before in
+    let there = rw (k .wide .ensures .0, k .before .element .ensures) at (c .before .if1 .taken) in
+    rw (lt-ltb _ _ there, c .element2 .ensures) refl
 
 returns-2 : tie.Need-returns-2
 returns-2 c =
-    let a = c .before .before .before .before .args in
-    range-absent (bytes-at (a .text .now) (a .place) (a .size)) (a .i) (c .before .wide .ensures .0 ∙ c .before .before .byte .ensures) (c .if1 .left)
+    let k = c .before in
+    let absent = rw (k .wide .ensures .0, k .before .element .ensures) at (c .if1 .left) in
+    rw (le-ltb _ _ absent) refl
 
 pub range-of-spec : {M : Type 1} → statement M
 range-of-spec =

@@ -1,8 +1,7 @@
 -- `reading::start_record` meets its contract.
 -- Each field is a byte of the frame.
 use mathlib.Core.Path.{refl}
-use Rattle.reading.specs.Frames.{start-record}
-use Rattle.digits.proofs.Bytes.{length-bytes}
+use Rattle.reading.specs.Records.{start-record}
 use borrow.Author.Needs.{needs}
 use Rattle.reading.proofs.start_record.Statement.{statement}
 use Rattle.reading.proofs.start_record.Tie as tie
@@ -10,16 +9,14 @@ use Rattle.reading.proofs.start_record.Tie as tie
 returns : tie.Need-returns
 unfolding start-record
 returns c =
-    let a = c .before .before .before .before .before .before .before .args in
+    let arguments = c .before .before in
     rw (
-      length-bytes (a .text .now) (a .place)
-          (a .size),
       c .rest .ensures,
-      c .before .byte5 .ensures,
-      c .before .before .byte4 .ensures,
-      c .before .before .before .byte3 .ensures,
-      c .before .before .before .before .byte2 .ensures,
-      c .before .before .before .before .before .byte .ensures,
+      c .before .element5 .ensures,
+      arguments .element4 .ensures,
+      arguments .before .element3 .ensures,
+      arguments .before .before .element2 .ensures,
+      arguments .before .before .before .element .ensures,
     ) refl
 
 pub start-record-spec : {M : Type 1} → statement M

@@ -1,7 +1,7 @@
 -- `reading::with_equation` meets its contract.
 -- Three stores.
 use mathlib.Core.Path.{refl}
-use Rattle.reading.specs.Models.{with-equation}
+use Rattle.reading.specs.Contract.{with-equation}
 use borrow.Author.Needs.{needs}
 use Rattle.reading.proofs.with_equation.Statement.{statement}
 use Rattle.reading.proofs.with_equation.Tie as tie

@@ -1,7 +1,7 @@
 -- `reading::with_start` meets its contract.
 -- Two stores.
 use mathlib.Core.Path.{refl}
-use Rattle.reading.specs.Models.{with-start}
+use Rattle.reading.specs.Contract.{with-start}
 use Rattle.reading.proofs.with_start.Statement.{statement}
 use Rattle.reading.proofs.with_start.Tie as tie
 

@@ -1,0 +1,51 @@
+-- The frame of the cycle {term}, as a check prints it. Nothing is argued here.
+-- The measure, the contract at and below a measure, and what the function knows of those it calls.
+use Prim.Native.Nat.{ℕ, _-_, _<_}
+use mathlib.Core.Path.{_≡_}
+use lib.ListN.{length}
+use borrow.Fn.Kinds.{In, Out}
+use borrow.Fn.PlainCycle.{Measures}
+use Rattle.evaluator.proofs.terms.+term.Lts-term as term
+use Rattle.evaluator.proofs.terms.term.Kinds as of-term
+use Rattle.evaluator.proofs.terms.term.Reads as term-reads
+use Rattle.basics.proofs.element.Reads as element-reads
+use Rattle.basics.proofs.wide.Reads as wide-reads
+use Rattle.evaluator.proofs.terms.calculate.Reads as calculate-reads
+use Rattle.evaluator.proofs.terms.no_term.Reads as no-term-reads
+use Rattle.formulas.proofs.is_range.Reads as is-range-reads
+use Rattle.formulas.proofs.term_kind_of.Reads as term-kind-of-reads
+use Rattle.formulas.proofs.item.Reads as item-reads
+
+-- what is left of the body
+abbrev pub μ-term : Measures 1 of-term.ps ℕ
+μ-term κs a = length (a .0 .now) - a .1 .0
+
+abbrev pub term-post : Out 1 of-term.ps of-term.r
+term-post = term-reads.Post
+
+module _ (t : ℕ) where
+  abbrev pub term-at : In 1 of-term.ps
+  term-at κs a = (μ-term κs a ≡ t) × term-reads.Pre κs a
+
+  abbrev pub term-below : In 1 of-term.ps
+  term-below κs a = (μ-term κs a < t) × term-reads.Pre κs a
+
+  abbrev pub term-calls : term.Claims
+  term-calls = (
+    no-term-reads.Asked,
+    no-term-reads.Learnt,
+    element-reads.Asked,
+    element-reads.Learnt,
+    term-kind-of-reads.Asked,
+    term-kind-of-reads.Learnt,
+    wide-reads.Asked,
+    wide-reads.Learnt,
+    item-reads.Asked,
+    item-reads.Learnt,
+    is-range-reads.Asked,
+    is-range-reads.Learnt,
+    term-below,
+    term-post,
+    calculate-reads.Asked,
+    calculate-reads.Learnt,
+  )

@@ -1,0 +1,223 @@
+-- The proof of the cycle of calls {gather, gather_fold}, over its frame (`Proof/Frame.antt`).
+-- `gather` reads a code's kind and whether something is left: `head`; each arm answers by a law. `gather_fold` goes by halves.
+mod Frame
+use Frame.*
+use Prim.Native.Nat.{ℕ, _+_}
+use native.Mathlib.Omega.{arith}
+use mathlib.Core.Path.{_≡_, refl, sym, ap, _∙_}
+use mathlib.Core.List.{List, [], _∷_, _++_}
+use borrow.Author.Needs.{needs}
+use borrow.Author.Tests.{not-true, not-false}
+use Rattle.meaning.specs.Simplification.{simplified}
+use Rattle.meaning.specs.Reach.{instances}
+use Rattle.meaning.specs.Typed.{range-positive}
+use Rattle.formulas.specs.Codes.{kind-of}
+use Rattle.formulas.specs.Tuples.{items}
+use Rattle.formulas.proofs.ByKind as law
+use Rattle.evaluator.proofs.Replies.{word-told}
+use Rattle.finding.proofs.Gathering.{gather-nothing, gather-closed, gather-compare, gather-free}
+use Rattle.finding.proofs.Gathering.{gather-join, gather-quantifier, gather-instance, gather-last, gather-halves}
+use Rattle.finding.proofs.+gather+gather_fold as cycle
+use Rattle.finding.proofs.+gather+gather_fold.Lts-gather as gather
+use Rattle.finding.proofs.+gather+gather_fold.Lts-gather_fold as fold
+
+-- ---- `gather`
+module _ (t : ℕ) where
+  -- where something may be left
+  module _ (c : gather.Else2 (gather-calls t) (gather-at t) gather-post) where
+    abbrev kinded : gather.After-kind-of (gather-calls t) (gather-at t) gather-post
+    kinded = c .before .before .before
+
+    abbrev start : gather.Start (gather-calls t) (gather-at t) gather-post
+    start = kinded .before .before .before .before .before
+
+    head : law.Head (start .args .body .now) (start .args .at) (kinded .kind-of .result)
+    head = record {
+      inside = kinded .before .before .if1 .left;
+      named = kinded .kind-of .ensures ∙ ap kind-of (kinded .before .element .ensures);
+    }
+
+  past-the-end : gather.Need-returns (gather-calls t) (gather-at t) gather-post
+  past-the-end c =
+      let s = c .before .before .before in
+      gather-nothing (s .pre .1 .few) (omega arith) (law.formula-late {e = s .args .at} (c .if1 .taken))
+
+  nothing-left : gather.Need-returns-2 (gather-calls t) (gather-at t) gather-post
+  nothing-left c =
+      let place = c .before .before in
+      gather-closed (place .before .before .before .before .before .before .pre .1 .few) (place .left-at .ensures)
+      (not-true _ (c .if2 .taken))
+
+  no-formula : gather.Need-returns-6 (gather-calls t) (gather-at t) gather-post
+  no-formula c =
+      let o = c .before .before in
+      gather-nothing (start o .pre .1 .few) (omega arith) (law.formula-none (head o) (c .enum-told .given .1))
+
+  a-constant : gather.Need-returns-7 (gather-calls t) (gather-at t) gather-post
+  unfolding simplified instances
+  a-constant c =
+      let o = c .before .before in
+      gather-nothing (start o .pre .1 .few) (omega arith)
+      (law.formula-constant (head o) (c .enum-told2 .given .1) (λ _. refl) refl)
+
+  a-comparison : gather.Need-returns-8 (gather-calls t) (gather-at t) gather-post
+  a-comparison c =
+      let o = c .before .before in
+      gather-compare (head o) (c .enum-told3 .given .1) (start o .pre .1 .few) (o .before .before .left-at .ensures)
+      (not-false _ (o .if2 .left))
+
+  a-join : gather.Need-returns-9 (gather-calls t) (gather-at t) gather-post
+  a-join c =
+      let first = c .before .before .before .before .before .before .before in
+      let arm = first .before .before .before .before in
+      let o = arm .before .before in
+      gather-free (o .before .before .left-at .ensures) (not-false _ (o .if2 .left))
+      (gather-join (head o) _ (arm .kind .given .1) (first .gather .ensures) (c .before .before .gather2 .ensures))
+
+  a-fifth : gather.Need-returns-3 (gather-calls t) (gather-at t) gather-post
+  a-fifth c =
+      let arm = c .before .before in
+      let o = arm .before .before in
+      gather-nothing (start o .pre .1 .few) (omega arith) (law.formula-fifth (head o) (arm .kind2 .given .1) (c .if3 .taken))
+
+  no-range : gather.Need-returns-4 (gather-calls t) (gather-at t) gather-post
+  no-range c =
+      let byte = c .before .before in
+      let arm = byte .before .before .before in
+      let o = arm .before .before in
+      gather-nothing (start o .pre .1 .few) (omega arith)
+      (law.formula-quantifier-no (head o) (arm .kind2 .given .1) (byte .before .if3 .left) (byte .element2 .ensures)
+      (sym (c .before .is-range .ensures) ∙ not-true _ (c .if4 .taken)))
+
+  a-quantifier : gather.Need-returns-10 (gather-calls t) (gather-at t) gather-post
+  a-quantifier c =
+      let over = c .before .before in
+      let test = over .before .before .before in
+      let byte = test .before .before in
+      let arm = byte .before .before .before in
+      let o = arm .before .before in
+      gather-free (o .before .before .left-at .ensures) (not-false _ (o .if2 .left))
+      (gather-quantifier (head o) _ (arm .kind2 .given .1) (byte .before .if3 .left) (byte .element2 .ensures)
+      (sym (test .before .is-range .ensures) ∙ not-false _ (test .if4 .left)) (over .gather-fold .ensures))
+
+  no-instance : gather.Need-returns-5 (gather-calls t) (gather-at t) gather-post
+  no-instance c =
+      let arm = c .before .before .before in
+      let o = arm .before .before in
+      gather-nothing (start o .pre .1 .few) (omega arith) (law.formula-lost
+      (law.formula-instance (head o) (arm .enum-told4 .given .1) (word-told (omega arith) (c .before .before .word-at .ensures)))
+      (not-true _ (c .if5 .taken)))
+
+  an-instance : gather.Need-returns-11 (gather-calls t) (gather-at t) gather-post
+  an-instance c =
+      let found = c .before .before .before .before .before in
+      let arm = found .before .before .before in
+      let o = arm .before .before in
+      gather-free (o .before .before .left-at .ensures) (not-false _ (o .if2 .left))
+      (gather-instance (head o) _ (arm .enum-told4 .given .1) (word-told (omega arith) (found .before .before .word-at .ensures))
+      (not-false _ (found .if5 .left)) (c .before .before .add-word .ensures))
+
+  some-values : gather.Need-gather-fold-requires (gather-calls t) (gather-at t) gather-post
+  some-values c κs =
+      let test = c .before .before in
+      let byte = test .before .before in
+      let o = byte .before .before .before .before .before in
+      let p = start o .pre in
+      let range = sym (test .before .is-range .ensures) ∙ not-false _ (test .if4 .left) in (
+        omega (arith, byte .element2 .ok, head o .inside, p .0),
+        (p .1, record { some = range-positive _ range; few = byte .before .if3 .left; reach = p .1 .reach }),
+      )
+
+  first-operand : gather.Need-gather-requires (gather-calls t) (gather-at t) gather-post
+  first-operand c κs = (omega arith, start (c .before .before .before .before .before) .pre .1)
+
+  second-operand : gather.Need-gather-requires-2 (gather-calls t) (gather-at t) gather-post
+  second-operand c κs =
+      let first = c .before .before .before .before in
+      let g = first .gather .ensures in
+      let o = first .before .before .before .before .before .before in
+      let p = start o .pre in (
+        omega (arith, g .on, head o .inside, p .0),
+        record { reach = p .1 .reach; few = g .few; lent = omega (arith, p .1 .lent, g .kept .size) },
+      )
+
+  -- the table is as long as before
+  after-both : gather.Need-same-length (gather-calls t) (gather-at t) gather-post
+  after-both c =
+      let first = c .before .before .before .before .before .before .before in
+      c .before .before .gather2 .ensures .kept .size ∙ first .gather .ensures .kept .size
+
+  word-added : gather.Need-add-word-requires (gather-calls t) (gather-at t) gather-post
+  word-added c κs =
+      let p = start (c .before .before .before .before .before .before .before) .pre .1 in
+      (p .few, p .lent)
+
+-- ---- `gather_fold`
+module _ (t : ℕ) where
+  -- there is place for one more variable
+  pushed : (c : fold.After-push (fold-calls t) (fold-at t) fold-post)
+      → let a = c .before .before .before .before .args in
+      (c .push .result .count ≡ a .scope .count + 1) ×
+      (items (c .push .result) ≡ items (a .scope) ++ (a .stretch .from ∷ []))
+  pushed c =
+      let p = c .before .before .before .before .pre .1 in
+      c .push .ensures .1 (omega (arith, p .0 .reach, p .1 .few))
+
+  one-value : fold.Need-gather-requires (fold-calls t) (fold-at t) fold-post
+  one-value c κs =
+      let p = c .before .before .before .before .before .before .pre .1 in
+      let more = pushed (c .before .before) .0 in
+      (omega arith, record { reach = omega (arith, more, p .0 .reach); few = p .0 .few; lent = p .0 .lent })
+
+  the-last : fold.Need-returns (fold-calls t) (fold-at t) fold-post
+  the-last c =
+      let place = c .before .before .before .before .before in
+      let s = place .before .before .before .before in
+      let p = pushed place in
+      gather-last (s .args .stretch) (items (s .args .scope)) (s .pre .1 .1 .some) (omega arith)
+      (rw (p .1, p .0) at (c .before .before .gather .ensures))
+
+  first-half : fold.Need-gather-fold-requires (fold-calls t) (fold-at t) fold-post
+  first-half c κs =
+      let p = c .before .before .before .before .before .pre .1 in
+      (omega arith, (p .0, record { some = omega arith; few = p .1 .few; reach = p .1 .reach }))
+
+  second-half : fold.Need-gather-fold-requires-2 (fold-calls t) (fold-at t) fold-post
+  second-half c κs =
+      let first = c .before .before .before .before in
+      let g = first .gather-fold .ensures in
+      let p = first .before .before .before .before .before .before .pre .1 in (
+        omega arith,
+        (
+          record { reach = p .0 .reach; few = g .few; lent = omega (arith, p .0 .lent, g .kept .size) },
+          record { some = omega arith; few = p .1 .few; reach = p .1 .reach },
+        ),
+      )
+
+  both-halves : fold.Need-returns-2 (fold-calls t) (fold-at t) fold-post
+  both-halves c =
+      let first = c .before .before .before .before .before .before .before in
+      let a = first .before .before .before .before .before .before .args in
+      gather-halves (a .stretch) (items (a .scope)) (omega arith) (omega arith) (first .gather-fold .ensures)
+      (c .before .before .gather-fold2 .ensures)
+
+  after-halves : fold.Need-same-length-2 (fold-calls t) (fold-at t) fold-post
+  after-halves c =
+      let first = c .before .before .before .before .before .before .before in
+      c .before .before .gather-fold2 .ensures .kept .size ∙ first .gather-fold .ensures .kept .size
+
+pub +gather+gather-fold-spec : {M : Type 1} → cycle.statement M
++gather+gather-fold-spec =
+    cycle.Tie.close μ-gather μ-fold
+    (λ t. gather.spec (gather-calls t) (gather-at t) gather-post
+    (past-the-end t) (λ c κs. search needs) (λ c κs. search needs)
+    (λ c κs. c .before .before .before .before .before .pre .1 .reach) (nothing-left t) (λ c. omega arith)
+    (λ c. search needs) (λ c. search needs) (λ c. search needs) (λ c. search needs) (first-operand t) (second-operand t)
+    (λ c. search needs) (a-fifth t) (λ c κs. search needs) (λ c κs. search needs) (no-range t) (λ c. omega arith)
+    (some-values t) (λ c. search needs) (λ c κs. search needs) (no-instance t) (word-added t) (no-formula t) (a-constant t)
+    (a-comparison t) (after-both t) (a-join t) (λ c. c .before .before .gather-fold .ensures .kept .size) (a-quantifier t)
+    (λ c. c .before .before .add-word .ensures .kept .size) (an-instance t))
+    (λ t. fold.spec (fold-calls t) (fold-at t) fold-post
+    (λ c. omega (arith, c .before .before .pre .1 .1 .some)) (λ c κs. search needs) (λ c. omega arith) (one-value t)
+    (λ c. c .before .before .gather .ensures .kept .size) (the-last t) (λ c. omega arith) (first-half t) (second-half t)
+    (after-halves t) (both-halves t))

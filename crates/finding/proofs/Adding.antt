@@ -1,0 +1,62 @@
+-- One word added to a table: the ways out of `add_word`.
+-- A table that is written behind the words found keeps what stands behind the new word.
+use Prim.Native.Nat.{ℕ, _+_, _≤_, _<_, min}
+use native.Mathlib.Omega.{arith}
+use native.Mathlib.Numerals.{add-one as one-more}
+use mathlib.Core.Path.{_≡_, refl, sym, ap, _∙_}
+use mathlib.Core.Bool.{true, false}
+use mathlib.Core.List.{List, [], _∷_, _++_}
+use lib.ListN.{length, take, set, length-set}
+use lib.Seq.{length-take-le, take-suc-set, drop-set-lt}
+use borrow.Author.Tests.{lt-ltb, le-ltb}
+use Rattle.evaluator.specs.Values.{index-of}
+use Rattle.finding.specs.FoundWords.{FoundWords, has-word, add-one}
+use Rattle.finding.proofs.FoundWordsLaws.{add-known, add-new, add-last}
+use Rattle.finding.specs.Kept.{found-of, found-words, Kept, Adds, found-fits, found-over}
+
+module _ (room : ℕ) (t : List ℕ) (n w : ℕ) (few : n ≤ room + 1) (lent : room ≤ length t) where
+  stays : {r : ℕ} → n ≤ r → Kept room t t (found-of room n) (found-of room r)
+  stays h = record { more = omega arith; within = omega arith; rest = refl; size = refl }
+
+  pub adds-full : room < n → Adds room t t n n w
+  unfolding add-one
+  adds-full h = record { within = few; kept = stays (omega arith); added = rw (lt-ltb room n h) refl }
+
+  module _ (fits : n ≤ room) where
+    known-length : length (take n t) ≡ n
+    known-length = length-take-le n t (omega arith)
+
+    added : {x s : FoundWords} → x ≡ s → add-one room (take n t, false) w ≡ s
+        → x ≡ add-one room (found-words t (found-of room n)) w
+    added p q = p ∙ sym q ∙ sym (ap (λ (s : FoundWords). add-one room s w) (found-fits room t fits))
+
+    pub adds-there : index-of (take n t) w < n → Adds room t t n n w
+    adds-there h =
+        let there = lt-ltb (index-of (take n t) w) (length (take n t)) (omega (arith, known-length)) in
+        let known = add-known room (take n t) w there in
+        record { within = few; kept = stays (omega arith); added = added (found-fits room t fits) known }
+
+    module _ (new : n ≤ index-of (take n t) w) where
+      absent : has-word (take n t) w ≡ false
+      absent = le-ltb (index-of (take n t) w) (length (take n t)) (omega (arith, known-length))
+
+      pub adds-past : room ≤ n → Adds room t t n (n + 1) w
+      adds-past h =
+          let whole : room ≡ n = omega arith in
+          let last = add-last n (take n t) w absent (omega (arith, known-length)) in
+          record {
+            within = omega arith;
+            kept = stays (omega arith);
+            added = added (found-over room t (omega arith)) (rw whole last);
+          }
+
+      pub adds-behind : n < room → Adds room t (set t n w) n (n + 1) w
+      adds-behind h =
+          let longer : take (n + 1) (set t n w) ≡ take n t ++ (w ∷ []) = rw (one-more n) (take-suc-set t n w (omega arith)) in
+          let rest = drop-set-lt (min (n + 1) room) t n w (omega arith) in
+          record {
+            within = omega arith;
+            kept = record { more = omega arith; within = omega arith; rest = rest; size = length-set t n w };
+            added = added (found-fits room (set t n w) (omega arith) ∙ ap (λ (k : List ℕ). (k, false)) longer)
+                (add-new room (take n t) w absent (omega (arith, known-length)));
+          }

@@ -1,0 +1,237 @@
+-- Gathering the instances left in a formula: a law for each way through the functions that gather.
+-- A formula whose connective nothing decides leaves what its parts leave, one after the other; a decided one leaves nothing.
+use Prim.Native.Nat.{ℕ, zero, suc, _+_, _-_, _≤_, _<_}
+use native.Mathlib.Omega.{arith}
+use native.Mathlib.Decide.{ℕ-discrete}
+use native.Mathlib.Nat.{sub-zero}
+use mathlib.Core.Path.{_≡_, refl, sym, ap, _∙_}
+use mathlib.Core.Bool.{Bool, true, false, true≢false, false≢true, _&&_, Bool·beq}
+use mathlib.Core.List.{List, [], _∷_, _++_, map, map-append, append-nil, append-assoc}
+use lib.ListN.{length, drop, getD}
+use lib.Seq.{drop-drop}
+use Rattle.meaning.specs.Logic.{over}
+use Rattle.meaning.specs.Over.{between, between-one, between-parts}
+use Rattle.meaning.specs.Formulas.{Formula}
+use Rattle.meaning.specs.Ranges.{is-range}
+use Rattle.meaning.specs.Simplification.{Simplified, decided, left, join-simplified, simplified}
+use Rattle.meaning.specs.Reach.{leaves, instances}
+use Rattle.meaning.specs.Words.{word}
+use Rattle.formulas.specs.declared.Kind.{Kind}
+use Rattle.formulas.specs.declared.Kind.the-variants.{NoFormula, Constant, Join, Quantifier, Compare, Instance}
+use Rattle.formulas.specs.declared.Test.{Test}
+use Rattle.formulas.specs.declared.Tuple.{Tuple}
+use Rattle.formulas.specs.Contract.{InstanceTold, FormulaTold}
+use Rattle.formulas.specs.Tuples.{items}
+use Rattle.formulas.proofs.ByKind as law
+use Rattle.evaluator.specs.declared.Stretch.{Stretch}
+use Rattle.evaluator.specs.declared.Valued.{Valued}
+use Rattle.evaluator.specs.Values.{value-in}
+use Rattle.evaluator.specs.Replies.{ValueReply, instance-word}
+use Rattle.evaluator.proofs.Replies.{value-told}
+use Rattle.evaluator.proofs.AsTruth.{told, open-everywhere}
+use Rattle.finding.specs.declared.Around.{Around}
+use Rattle.finding.specs.declared.Found.{Found}
+use Rattle.finding.specs.FoundWords.{FoundWords, add-one, add}
+use Rattle.finding.proofs.FoundWordsLaws.{add-append}
+use Rattle.finding.specs.Kept.{found-of, found-words, Kept, Adds}
+use Rattle.finding.specs.Absorbed.{absorbs, parted}
+use Rattle.finding.specs.Gathered.{words-left, inside, Free, own, needs-no-value, is-open, is-left}
+use Rattle.finding.specs.Gathered.{LeftTold, unasked, asked, Gathers, GathersLeft, GathersOver}
+
+-- ---- the table
+pub drop-more : {A : Type 0} (n m : ℕ) (a b : List A) → n ≤ m → drop n a ≡ drop n b → drop m a ≡ drop m b
+drop-more n m a b h e =
+    let k : m ≡ n + (m - n) = omega arith in
+    rw k (sym (drop-drop (m - n) n a) ∙ ap (drop (m - n)) e ∙ drop-drop (m - n) n b)
+
+pub kept-same : (room : ℕ) (t : List ℕ) (s : ℕ) → Kept room t t (found-of room s) (found-of room s)
+kept-same room t s = record { more = omega arith; within = omega arith; rest = refl; size = refl }
+
+kept-then : {room : ℕ} {a b c : List ℕ} {s r u : Found} → Kept room a b s r → Kept room b c r u → Kept room a c s u
+kept-then {a} {b} {c} {r} {u} p q = record {
+  more = omega (arith, p .more, q .more);
+  within = q .within;
+  rest = q .rest ∙ drop-more (r .count) (u .count) b a (q .more) (p .rest);
+  size = q .size ∙ p .size;
+}
+
+-- what two parts add, one after the other
+added-both : (room : ℕ) (s : FoundWords) (ws us : List ℕ) {m e : FoundWords} {all : List ℕ} → all ≡ ws ++ us → m ≡ add room s ws
+    → e ≡ add room m us → e ≡ add room s all
+added-both room s ws us h a b = b ∙ ap (λ (k : FoundWords). add room k us) a ∙ sym (add-append room s ws us) ∙ ap (add room s) (sym h)
+
+-- ---- what decides a connective
+same-connective : (around : Around) (all : Bool) (x : Simplified) → (around .within && Bool·beq all (around .all)) ≡ true
+    → Free around x → absorbs all x ≡ false
+same-connective around all x h f = go (around .within) (around .all) all h f
+  where
+    go : (within other all : Bool) → (within && Bool·beq all other) ≡ true → (within ≡ true → absorbs other x ≡ false)
+        → absorbs all x ≡ false
+    go true true true h f = f refl
+    go true false false h f = f refl
+    go true false true h f = absurd (false≢true h)
+    go true true false h f = absurd (false≢true h)
+    go false other all h f = absurd (false≢true h)
+
+-- where the value is not needed, and where something is left, nothing decides the formula's own connective
+own-free : (kind : Kind) (around : Around) (x : Simplified) → needs-no-value kind around ≡ true → Free around x
+    → Free (own kind) x
+own-free NoFormula around x h f z = absurd (false≢true z)
+own-free (Constant b) around x h f z = absurd (false≢true z)
+own-free (Join all) around x h f z = same-connective around all x h f
+own-free (Quantifier all) around x h f z = same-connective around all x h f
+own-free (Compare t) around x h f z = absurd (false≢true h)
+own-free Instance around x h f z = absurd (false≢true z)
+
+left-free : (around : Around) (x : Simplified) → true ≡ is-left x → Free around x
+unfolding absorbs
+left-free around (decided c) h _ = absurd (true≢false h)
+left-free around (left l) h _ = refl
+
+none-left : (x : Simplified) → false ≡ is-left x → words-left x ≡ []
+unfolding instances
+none-left (decided c) h = refl
+none-left (left l) h = absurd (false≢true h)
+
+-- a quantifier that nothing decides is decided at no value, and leaves what each value leaves
+over-left : (all : Bool) (p : ℕ → Simplified) (v n : ℕ) → absorbs all (over (join-simplified all) (decided all) v n p) ≡ false
+    → ((i : ℕ) → v ≤ i → i < v + n → absorbs all (p i) ≡ false)
+    × (words-left (over (join-simplified all) (decided all) v n p) ≡ over _++_ [] v n (λ i. words-left (p i)))
+unfolding over instances
+over-left all p v zero h = (λ i l u. absurd (omega arith), refl)
+over-left all p v (suc n) h =
+    let both = parted all (p v) (over (join-simplified all) (decided all) (v + 1) n p) h in
+    let rest = over-left all p (v + 1) n (both .second) in (
+      λ i l u. elim (ℕ-discrete i v) [ yes e ↦ rw e (both .first) | no d ↦ rest .0 i (omega arith) (omega arith) ],
+      ap (map word) (both .both) ∙ map-append word (instances (p v)) _ ∙ ap (λ (l : List ℕ). words-left (p v) ++ l) (rest .1),
+    )
+
+-- ---- whether something is left, by the value where nothing is known of any instance
+told-is-open : (x : Simplified) → is-open (told x) ≡ is-left x
+told-is-open (decided true) = refl
+told-is-open (decided false) = refl
+told-is-open (left l) = refl
+
+module _ {body : List ℕ} {at : ℕ} {scope : Tuple} {q : ℕ} {kind : Kind} {around : Around} (set : ℕ → Bool) {r : Valued}
+    (reach : scope .count ≤ 4 + q) (v : ValueReply (value-in [] set) body at scope q r) where
+  pub left-valued : {b : Bool} → r .ok ≡ true → b ≡ is-open (r .value) → LeftTold body at scope q kind around b (r .next)
+  left-valued z h = asked (v .on z) (law.formula-map (value-told reach v)
+      (λ f x. h ∙ ap is-open (x ∙ open-everywhere f set (items scope)) ∙ told-is-open (simplified f (items scope))))
+
+  pub left-unread : r .ok ≡ false → LeftTold body at scope q kind around false at
+  left-unread z = asked {next = at} (omega arith) (law.formula-lost (value-told reach v) z)
+
+-- ---- what was gathered may be told of an earlier place, and in other words
+gathered : {C D : Formula → Type 0} {ws us : Formula → List ℕ} {room : ℕ} {body : List ℕ} {k q at k′ q′ at′ : ℕ} {t e : List ℕ}
+    {s r next : ℕ} {ok : Bool} → Gathers C ws room body k q at t e s r next → at′ ≤ at
+    → FormulaTold (λ f. D f → found-words e (found-of room r) ≡ add room (found-words t (found-of room s)) (us f)) body (length body)
+    k′ q′ at′ ok next
+    → Gathers D us room body k′ q′ at′ t e s r next
+gathered {ok} g l u = record { on = omega (arith, g .on); few = g .few; kept = g .kept; there = ok; told = u }
+
+-- ---- nothing is added
+module _ {C : Formula → Type 0} {ws : Formula → List ℕ} {room : ℕ} {body : List ℕ} {k q at : ℕ} {t : List ℕ} {s : ℕ} where
+  pub gather-nothing : {ok : Bool} {next : ℕ} → s ≤ room + 1 → at ≤ next
+      → FormulaTold (λ f. C f → ws f ≡ []) body (length body) k q at ok next → Gathers C ws room body k q at t t s s next
+  unfolding add
+  gather-nothing {ok} l o u = record {
+    on = o;
+    few = l;
+    kept = kept-same room t s;
+    there = ok;
+    told = law.formula-map u (λ f h c. rw (h c) refl);
+  }
+
+module _ {room : ℕ} {body : List ℕ} {at : ℕ} {scope : Tuple} {q : ℕ} {kind : Kind} {around : Around} where
+  pub gather-closed : {b : Bool} {next : ℕ} {t : List ℕ} {s : ℕ} → s ≤ room + 1 → LeftTold body at scope q kind around b next
+      → b ≡ false → GathersLeft around (items scope) room body (scope .count) q at t t s s next
+  gather-closed l (unasked h) z = absurd (true≢false z)
+  gather-closed l (asked on u) z =
+      gather-nothing l on (law.formula-map u (λ f h _. none-left (simplified f (items scope)) (sym z ∙ h)))
+
+  -- a test is never left
+  pub gather-compare : {b : Bool} {m : ℕ} {t : List ℕ} {s : ℕ} {test : Test} → law.Head body at kind → kind ≡ Compare test
+      → s ≤ room + 1 → LeftTold body at scope q kind around b m → b ≡ true
+      → GathersLeft around (items scope) room body (scope .count) q at t t s s (at + 1)
+  unfolding simplified
+  gather-compare head e l (unasked h) z = absurd (false≢true (ap (λ (k : Kind). needs-no-value k around) (sym e) ∙ h))
+  gather-compare head e l (asked on u) z =
+      gather-nothing l (omega arith) (law.formula-compare-never head e u (λ _ _ h. true≢false (sym z ∙ h)))
+
+  -- what is gathered where nothing decides the formula's own connective is gathered where it is free of that around it
+  pub gather-free : {b : Bool} {m : ℕ} {t e : List ℕ} {s r next : ℕ} → LeftTold body at scope q kind around b m → b ≡ true
+      → GathersLeft (own kind) (items scope) room body (scope .count) q at t e s r next
+      → GathersLeft around (items scope) room body (scope .count) q at t e s r next
+  gather-free (unasked h) z g =
+      gathered g (omega arith) (law.formula-map (g .told)
+      (λ f x free. x (own-free kind around (simplified f (items scope)) h free)))
+  gather-free (asked on u) z g =
+      gathered g (omega arith) (law.formula-map (law.formula-both (g .told) u)
+      (λ f x free. x .0 (left-free (own kind) (simplified f (items scope)) (sym z ∙ x .1))))
+
+-- ---- the parts of a formula
+module _ {body : List ℕ} {at : ℕ} {kind : Kind} (head : law.Head body at kind) {room : ℕ} (v : List ℕ) {k q : ℕ} where
+  pub gather-join : {all : Bool} {t m e : List ℕ} {s u r i next : ℕ} → kind ≡ Join all
+      → GathersLeft (inside all) v room body k q (at + 1) t m s u i → GathersLeft (inside all) v room body k q i m e u r next
+      → GathersLeft (own kind) v room body k q at t e s r next
+  unfolding simplified
+  gather-join {all} {t} {s} h a b = rw h (record {
+    on = omega (arith, a .on, b .on);
+    few = b .few;
+    kept = kept-then (a .kept) (b .kept);
+    there = a .there && b .there;
+    told = law.formula-joined head h (a .told) (omega arith) (b .told) (λ f g x y free.
+        let both = parted all (simplified f v) (simplified g v) (free refl) in
+        added-both room (found-words t (found-of room s)) (words-left (simplified f v)) (words-left (simplified g v))
+        (ap (map word) (both .both) ∙ map-append word (instances (simplified f v)) (instances (simplified g v)))
+        (x (λ _. both .first)) (y (λ _. both .second)));
+  })
+
+  pub gather-quantifier : {all : Bool} {r : ℕ} {t e : List ℕ} {s u next : ℕ} → kind ≡ Quantifier all → q < 4
+      → r ≡ getD body (at + 1) 0 → is-range r ≡ true
+      → GathersOver (record { all = all; from = 0; to = r }) v room body (k + 1) (q + 1) (at + 2) t e s u next
+      → GathersLeft (own kind) v room body k q at t e s u next
+  unfolding simplified
+  gather-quantifier {all} {r} h d byte range g =
+      rw h (gathered g (omega arith) (law.formula-quantifier head h d byte range (g .told) (λ f x free.
+      let each = over-left all (λ i. simplified f (v ++ (i ∷ []))) 0 r (free refl) in
+      rw (each .1) (rw sub-zero at (x (λ i _ l. each .0 i (omega arith) (omega arith)))))))
+
+  pub gather-instance : {w : ℕ} {ok : Bool} {t e : List ℕ} {s m next : ℕ} → kind ≡ Instance
+      → InstanceTold (λ f. w ≡ instance-word v f) body k (at + 1) ok next → ok ≡ true → Adds room t e s m w
+      → GathersLeft (own kind) v room body k q at t e s m next
+  unfolding simplified instances leaves add
+  gather-instance {ok} h i z a = record {
+    on = omega (arith, law.instance-on i z);
+    few = a .within;
+    kept = a .kept;
+    there = ok;
+    told = law.formula-instance head h (law.instance-map i (λ l w _. rw (← w) (a .added)));
+  }
+
+-- ---- the values of a stretch
+module _ (stretch : Stretch) (v : List ℕ) {room : ℕ} {body : List ℕ} {k q at : ℕ} where
+  -- the only value
+  pub gather-last : {t e : List ℕ} {s r next : ℕ} → stretch .from < stretch .to → stretch .to ≤ stretch .from + 1
+      → GathersLeft (inside (stretch .all)) (v ++ (stretch .from ∷ [])) room body k q at t e s r next
+      → GathersOver stretch v room body k q at t e s r next
+  gather-last {t} {s} l h g =
+      gathered g (omega arith) (law.formula-map (g .told) (λ f x free. x (λ _. free (stretch .from) (omega arith) l) ∙
+      ap (add room (found-words t (found-of room s)))
+      (sym (between-one _++_ [] (λ i. words-left (simplified f (v ++ (i ∷ [])))) l h ∙ append-nil _))))
+
+  pub gather-halves : {middle : ℕ} {t m e : List ℕ} {s u r i next : ℕ} → stretch .from ≤ middle → middle ≤ stretch .to
+      → GathersOver (record { all = stretch .all; from = stretch .from; to = middle }) v room body k q at t m s u i
+      → GathersOver (record { all = stretch .all; from = middle; to = stretch .to }) v room body k q at m e u r next
+      → GathersOver stretch v room body k q at t e s r next
+  gather-halves {t} {s} l h a b = record {
+    on = b .on;
+    few = b .few;
+    kept = kept-then (a .kept) (b .kept);
+    there = b .there;
+    told = law.formula-map (law.formula-both (b .told) (a .told)) (λ f x free.
+        added-both room (found-words t (found-of room s)) _ _
+        (sym (between-parts _++_ [] (λ a b c. sym (append-assoc a b c)) (λ a. refl)
+        (λ i. words-left (simplified f (v ++ (i ∷ [])))) l h))
+        (x .1 (λ i p q. free i p (omega arith))) (x .0 (λ i p q. free i (omega arith) q)));
+  }

@@ -1,0 +1,4 @@
+pub mod FoundWordsLaws
+pub mod Adding
+pub mod Gathering
+pub mod Finding

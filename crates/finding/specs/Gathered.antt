@@ -1,0 +1,106 @@
+-- What the functions that gather the instances left in a right side promise.
+-- A part whose connective no constant decides has all that is left in it gathered, from left to right.
+use Prim.Native.Nat.{ℕ, _+_, _≤_, _<_}
+use mathlib.Core.Path.{_≡_}
+use mathlib.Core.Bool.{Bool, true, false, _&&_, Bool·beq}
+use mathlib.Core.List.{List, [], _∷_, _++_, map}
+use lib.ListN.{length}
+use Rattle.meaning.specs.Over.{between}
+use Rattle.meaning.specs.Formulas.{Formula}
+use Rattle.meaning.specs.Simplification.{Simplified, decided, left, simplified}
+use Rattle.meaning.specs.Reach.{instances}
+use Rattle.meaning.specs.Words.{word}
+use Rattle.formulas.specs.declared.Kind.{Kind}
+use Rattle.formulas.specs.declared.Kind.the-variants.{NoFormula, Constant, Join}
+use Rattle.formulas.specs.declared.Kind.the-variants.{Quantifier, Compare, Instance}
+use Rattle.formulas.specs.declared.Tuple.{Tuple}
+use Rattle.formulas.specs.Contract.{FormulaTold}
+use Rattle.formulas.specs.Tuples.{items}
+use Rattle.evaluator.specs.declared.Stretch.{Stretch}
+use Rattle.evaluator.specs.declared.Value.{Value}
+use Rattle.evaluator.specs.declared.Value.the-variants.{False, True, Open}
+use Rattle.finding.specs.declared.Around.{Around}
+use Rattle.finding.specs.FoundWords.{add}
+use Rattle.finding.specs.Kept.{found-of, found-words, Kept}
+use Rattle.finding.specs.Absorbed.{absorbs}
+
+-- the words of the instances that are left
+abbrev pub words-left : Simplified → List ℕ
+words-left x = map word (instances x)
+
+-- ---- the connective around a formula
+abbrev pub inside : Bool → Around
+inside all = record { within = true; all = all }
+
+abbrev pub apart : Around
+apart = record { within = false; all = false }
+
+-- a formula within a connective is free of it: it does not decide it
+abbrev pub Free : Around → Simplified → Type 0
+Free around x = around .within ≡ true → absorbs (around .all) x ≡ false
+
+-- the connective that a formula of this kind has itself
+abbrev pub own : Kind → Around
+own NoFormula = apart
+own (Constant b) = apart
+own (Join all) = inside all
+own (Quantifier all) = inside all
+own (Compare t) = apart
+own Instance = apart
+
+-- the value of a formula of this kind is not needed to know that nothing decides its own connective
+abbrev pub needs-no-value : Kind → Around → Bool
+needs-no-value NoFormula around = true
+needs-no-value (Constant b) around = true
+needs-no-value (Join all) around = around .within && Bool·beq all (around .all)
+needs-no-value (Quantifier all) around = around .within && Bool·beq all (around .all)
+needs-no-value (Compare t) around = false
+needs-no-value Instance around = true
+
+-- ---- whether something is left
+abbrev pub is-open : Value → Bool
+is-open False = false
+is-open True = false
+is-open Open = true
+
+abbrev pub is-left : Simplified → Bool
+is-left (decided c) = false
+is-left (left l) = true
+
+-- what is left of the formula at a place is to be gathered with no look at its value, or else it is known
+-- whether something is left of it
+pub data LeftTold (body : List ℕ) (at : ℕ) (scope : Tuple) (q : ℕ) (kind : Kind) (around : Around)
+    : Bool → ℕ → Type 0 where
+  unasked : needs-no-value kind around ≡ true → LeftTold body at scope q kind around true at
+  asked : {left ok : Bool} {next : ℕ} → at ≤ next
+      → FormulaTold (λ f. left ≡ is-left (simplified f (items scope))) body (length body) (scope .count) q at
+      ok next → LeftTold body at scope q kind around left next
+
+-- ---- gathering
+-- at most four of the variables in reach are parameters, and one more is found than there is room, at most
+pub record Gatherable (scope : Tuple) (q room : ℕ) (table : List ℕ) (found : ℕ) : Type 0 where
+  pub reach : scope .count ≤ 4 + q
+  pub few : found ≤ room + 1
+  pub lent : room ≤ length table
+
+-- s words are found, and then r: those that ws says of the formula at a place are added, where C holds of it
+pub record Gathers (C : Formula → Type 0) (ws : Formula → List ℕ) (room : ℕ) (body : List ℕ) (k q at : ℕ)
+    (entry exit : List ℕ) (s r : ℕ) (next : ℕ) : Type 0 where
+  pub on : at ≤ next
+  pub few : r ≤ room + 1
+  pub kept : Kept room entry exit (found-of room s) (found-of room r)
+  pub there : Bool
+  pub told : FormulaTold
+      (λ f. C f → found-words exit (found-of room r) ≡ add room (found-words entry (found-of room s)) (ws f)) body
+      (length body) k q at there next
+
+-- the words left in the formula, where it is free of the connective around it
+abbrev pub GathersLeft : Around → List ℕ → ℕ → List ℕ → ℕ → ℕ → ℕ → List ℕ → List ℕ → ℕ → ℕ → ℕ → Type 0
+GathersLeft around v = Gathers (λ f. Free around (simplified f v)) (λ f. words-left (simplified f v))
+
+-- those left at each value of a stretch, where no value decides the quantifier
+abbrev pub GathersOver : Stretch → List ℕ → ℕ → List ℕ → ℕ → ℕ → ℕ → List ℕ → List ℕ → ℕ → ℕ → ℕ → Type 0
+GathersOver s v =
+    Gathers
+    (λ f. (i : ℕ) → s .from ≤ i → i < s .to → absorbs (s .all) (simplified f (v ++ (i ∷ []))) ≡ false)
+    (λ f. between _++_ [] (s .from) (s .to) (λ i. words-left (simplified f (v ++ (i ∷ [])))))

@@ -1,0 +1,7 @@
+pub mod Lines
+pub mod Frames
+pub mod FrameAt
+pub mod PutLine
+pub mod Written
+pub mod RoundTrip
+pub mod OneReply

@@ -1,0 +1,4 @@
+pub mod Fill
+pub mod Turns
+pub mod Agreement
+pub mod SolvedMeaning

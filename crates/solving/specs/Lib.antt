@@ -1,0 +1,3 @@
+pub mod Solved
+pub mod Promise
+pub mod OneReply

@@ -1,0 +1,41 @@
+-- DEFINITIONS: what a word names: the number of an equation, and arguments. Document 01, "What is lent".
+-- "A word is equation × 65,536 + p0 × 4,096 + p1 × 256 + p2 × 16 + p3, absent parameters 0."
+use Prim.Native.Nat.{ℕ, zero, suc, _/_, _%_, min}
+use native.Mathlib.Omega.{arith}
+use mathlib.Core.Path.{_≡_, refl}
+use mathlib.Core.List.{List, [], _∷_}
+use lib.ListN.{take}
+use Rattle.meaning.specs.WordLaws.{arguments-of}
+use Rattle.formulas.specs.declared.Tuple.{Tuple}
+use Rattle.formulas.specs.Tuples.{items}
+
+abbrev pub equation-number : ℕ → ℕ
+equation-number w = w / 65536
+
+-- the first k arguments: "parameter count k (0 to 4)", so there are no more than four
+unfoldable pub argument-tuple : (w k : ℕ) → Tuple
+argument-tuple w k = record {
+  values = w / 4096 % 16 ∷ w / 256 % 16 ∷ w / 16 % 16 ∷ w % 16 ∷ 0 ∷ 0 ∷ 0 ∷ 0 ∷ [];
+  count = min k 4;
+}
+
+-- ---- laws
+pub argument-count : (w k : ℕ) → argument-tuple w k .count ≡ min k 4
+unfolding argument-tuple
+argument-count w k = refl
+
+-- four of a longer list, as many as are asked for
+pub first-four : (k a b c d : ℕ) (rest : List ℕ)
+    → take (min k 4) (a ∷ b ∷ c ∷ d ∷ rest) ≡ take k (a ∷ b ∷ c ∷ d ∷ [])
+first-four zero a b c d rest = refl
+first-four (suc zero) a b c d rest = refl
+first-four (suc (suc zero)) a b c d rest = refl
+first-four (suc (suc (suc zero))) a b c d rest = refl
+first-four (suc (suc (suc (suc zero)))) a b c d rest = refl
+first-four (suc (suc (suc (suc (suc k))))) a b c d rest =
+    let four : min (suc (suc (suc (suc (suc k))))) 4 ≡ 4 = omega arith in
+    rw four refl
+
+pub argument-items : (w k : ℕ) → items (argument-tuple w k) ≡ arguments-of k w
+unfolding argument-tuple arguments-of
+argument-items w k = first-four k _ _ _ _ (0 ∷ 0 ∷ 0 ∷ 0 ∷ [])
