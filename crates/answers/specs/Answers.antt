@@ -1,5 +1,7 @@
--- DEFINITIONS: what comes back for a text, and what every lent place holds afterwards. Document 01, "Numbers of refusal", "What is lent", "Meaning and reach".
--- Everything is a function of the text and of the lengths lent; the order of the refusals is the order of the tests.
+-- DEFINITIONS: what comes back for a text, and what every lent place holds afterwards. Document 01, "Numbers
+-- of refusal", "What is lent", "Meaning and reach".
+-- Everything is a function of the text and of the lengths lent; the order of the refusals is the order of the
+-- tests.
 use Prim.Native.Nat.{ℕ, min}
 use mathlib.Core.Bool.{Bool, true, false, cond}
 use mathlib.Core.List.{List, [], _∷_, _++_, map}
@@ -43,9 +45,17 @@ bit false = 0
 
 -- "On refusal all 512 bits are clear"; "both counts are 0, and so is any field for the verdict"
 abbrev pub refusal : ℕ → ℕ → Answer
-refusal number line = record { number = number; line = line; verdict = 0; reached = 0; trues = 0; truth = replicate 8 0 }
+refusal number line = record {
+  number = number;
+  line = line;
+  verdict = 0;
+  reached = 0;
+  trues = 0;
+  truth = replicate 8 0;
+}
 
--- "Each answer carries number and line, both 0 on a verdict": the value of the start, the two counts, the truth of the list
+-- "Each answer carries number and line, both 0 on a verdict": the value of the start, the two counts, the
+-- truth of the list
 unfoldable pub verdict : List ℕ → Answer
 verdict t = record {
   number = 0;
@@ -67,7 +77,8 @@ answer t words-lent =
     (judged t (room-of words-lent))
     (refusal (text-refusal t .number) (text-refusal t .line))
 
--- "On a verdict with n reached, the first n words are the list and the rest is untouched. Refusals 1 to 8 touch none.
+-- "On a verdict with n reached, the first n words are the list and the rest is untouched. Refusals 1 to 8
+-- touch none.
 -- Refusal 9 leaves the first instances found, filling the room, the rest untouched."
 abbrev pub kept-words : List ℕ → ℕ → List ℕ
 kept-words t room = take room (map word (list t))
@@ -78,7 +89,8 @@ table-after t table =
     (kept-words t (room-of (length table)) ++ drop (length (kept-words t (room-of (length table)))) table)
     table
 
--- "Where the list has fewer than eight records the answer is 5, line 0, before any other refusal, and nothing is touched"
+-- "Where the list has fewer than eight records the answer is 5, line 0, before any other refusal, and nothing
+-- is touched"
 unfoldable pub checked : List ℕ → ℕ → ℕ → Answer
 checked t records-lent words-lent = cond (ltb records-lent 8) (refusal 5 0) (answer t words-lent)
 

@@ -1,5 +1,6 @@
 -- DEMAND 1: which number is given, when, and in which order; and what the lent table holds after each answer.
--- `every-answer` goes through the tests of the definitions in their order; the rest is read off its four cases.
+-- `every-answer` goes through the tests of the definitions in their order; the rest is read off its four
+-- cases.
 use Prim.Native.Nat.{ℕ, _≤_, _<_}
 use native.Mathlib.Omega.{arith}
 use mathlib.Core.Path.{_≡_, refl, sym, ap, _∙_}
@@ -8,13 +9,15 @@ use mathlib.Core.List.{List, _++_, map}
 use lib.Dec.{eqb, ltb, leb}
 use lib.ListN.{length, take, drop, length-take, length-map}
 use lib.Seq.{length-front, length-take-le, take-all}
-use borrow.Author.Tests.{ltb-true, ltb-false, leb-true, leb-false, eqb-true, eqb-false, lt-ltb, le-ltb, le-leb, lt-leb, eq-eqb, ne-eqb}
+use borrow.Author.Tests.{ltb-true, ltb-false, leb-true, leb-false, eqb-true, eqb-false, lt-ltb, le-ltb}
+use borrow.Author.Tests.{le-leb, lt-leb, eq-eqb, ne-eqb}
 use Rattle.meaning.specs.Words.{word}
 use Rattle.reading.specs.Reading.{Refusal, text-refusal}
 use Rattle.reading.proofs.LineNumbers.{refusal-bounded}
 use Rattle.answers.specs.declared.Answer.{Answer}
 use Rattle.reading.proofs.LineNumbers.{one-of-long-text, long-text-one, refusal-names-line}
-use Rattle.answers.specs.Answers.{list, room-of, refusal, verdict, judged, answer, kept-words, table-after, checked, table-after-check}
+use Rattle.answers.specs.Answers.{list, room-of, refusal, verdict, judged, answer, kept-words}
+use Rattle.answers.specs.Answers.{table-after, checked, table-after-check}
 
 infix 10 _exactly-when_
 abbrev pub _exactly-when_ : Type 0 → Type 0 → Type 0
@@ -25,11 +28,14 @@ pub data Reply (t : List ℕ) (records words : ℕ) : Answer → Type 0 where
   -- "Where the list has fewer than eight records the answer is 5, line 0, before any other refusal"
   short-list : records < 8 → Reply t records words (refusal 5 0)
   -- then 1 to 8, as reading gives them in their order
-  text-refused : 8 ≤ records → (text-refusal t .number ≡ 0 → ⊥) → Reply t records words (refusal (text-refusal t .number) (text-refusal t .line))
+  text-refused : 8 ≤ records → (text-refusal t .number ≡ 0 → ⊥)
+      → Reply t records words (refusal (text-refusal t .number) (text-refusal t .line))
   -- then 9: "more reached instances than room (line 0)"
-  too-many : 8 ≤ records → text-refusal t .number ≡ 0 → room-of words < length (list t) → Reply t records words (refusal 9 0)
+  too-many : 8 ≤ records → text-refusal t .number ≡ 0 → room-of words < length (list t)
+      → Reply t records words (refusal 9 0)
   -- else the verdict
-  judged-so : 8 ≤ records → text-refusal t .number ≡ 0 → length (list t) ≤ room-of words → Reply t records words (verdict t)
+  judged-so : 8 ≤ records → text-refusal t .number ≡ 0 → length (list t) ≤ room-of words
+      → Reply t records words (verdict t)
 
 module _ (t : List ℕ) (records words : ℕ) where
   -- every answer is one of these four and has its cause
@@ -37,16 +43,20 @@ module _ (t : List ℕ) (records words : ℕ) where
   unfolding checked answer judged
   every-answer = by-records (ltb records 8) refl
     where
-      by-room : (b : Bool) → leb (length (list t)) (room-of words) ≡ b → 8 ≤ records → text-refusal t .number ≡ 0 → Reply t records words (cond b (verdict t) (refusal 9 0))
+      by-room : (b : Bool) → leb (length (list t)) (room-of words) ≡ b → 8 ≤ records
+          → text-refusal t .number ≡ 0 → Reply t records words (cond b (verdict t) (refusal 9 0))
       by-room true e h r = judged-so h r (leb-true (length (list t)) (room-of words) e)
       by-room false e h r = too-many h r (leb-false (length (list t)) (room-of words) e)
 
       by-text : (b : Bool) → eqb (text-refusal t .number) 0 ≡ b → 8 ≤ records →
-          Reply t records words (cond b (judged t (room-of words)) (refusal (text-refusal t .number) (text-refusal t .line)))
-      by-text true e h = by-room (leb (length (list t)) (room-of words)) refl h (eqb-true (text-refusal t .number) 0 e)
+          Reply t records words (cond b (judged t (room-of words))
+          (refusal (text-refusal t .number) (text-refusal t .line)))
+      by-text true e h = by-room (leb (length (list t)) (room-of words)) refl h
+          (eqb-true (text-refusal t .number) 0 e)
       by-text false e h = text-refused h (eqb-false (text-refusal t .number) 0 e)
 
-      by-records : (b : Bool) → ltb records 8 ≡ b → Reply t records words (cond b (refusal 5 0) (answer t words))
+      by-records : (b : Bool) → ltb records 8 ≡ b
+          → Reply t records words (cond b (refusal 5 0) (answer t words))
       by-records true e = short-list (ltb-true records 8 e)
       by-records false e = by-text (eqb (text-refusal t .number) 0) refl (ltb-false records 8 e)
 
@@ -61,46 +71,67 @@ module _ (t : List ℕ) (records words : ℕ) where
   records-enough h = rw (le-ltb records 8 h) refl
 
   -- then what reading refuses
-  pub then-text : 8 ≤ records → (text-refusal t .number ≡ 0 → ⊥) → checked t records words ≡ refusal (text-refusal t .number) (text-refusal t .line)
+  pub then-text : 8 ≤ records → (text-refusal t .number ≡ 0 → ⊥)
+      → checked t records words ≡ refusal (text-refusal t .number) (text-refusal t .line)
   unfolding answer
   then-text h r = records-enough h ∙ rw (ne-eqb (text-refusal t .number) 0 r) refl
 
   -- then more reached instances than room
-  pub then-room : 8 ≤ records → text-refusal t .number ≡ 0 → room-of words < length (list t) → checked t records words ≡ refusal 9 0
+  pub then-room : 8 ≤ records → text-refusal t .number ≡ 0 → room-of words < length (list t)
+      → checked t records words ≡ refusal 9 0
   unfolding answer judged
-  then-room h r l = records-enough h ∙ rw (eq-eqb (text-refusal t .number) 0 r, lt-leb (length (list t)) (room-of words) l) refl
+  then-room h r l = records-enough h ∙ rw (
+    eq-eqb (text-refusal t .number) 0 r,
+    lt-leb (length (list t))
+        (room-of words) l,
+  ) refl
 
   -- and where nothing is refused, the verdict
-  pub then-verdict : 8 ≤ records → text-refusal t .number ≡ 0 → length (list t) ≤ room-of words → checked t records words ≡ verdict t
+  pub then-verdict : 8 ≤ records → text-refusal t .number ≡ 0 → length (list t) ≤ room-of words
+      → checked t records words ≡ verdict t
   unfolding answer judged
-  then-verdict h r l = records-enough h ∙ rw (eq-eqb (text-refusal t .number) 0 r, le-leb (length (list t)) (room-of words) l) refl
+  then-verdict h r l = records-enough h ∙ rw (
+    eq-eqb (text-refusal t .number) 0 r,
+    le-leb (length (list t))
+        (room-of words) l,
+  ) refl
 
-  -- a verdict is given exactly when there are records enough, the text is read, and the reached instances have room
-  pub verdict-given : (checked t records words .number ≡ 0) exactly-when ((8 ≤ records) × (text-refusal t .number ≡ 0) × (length (list t) ≤ room-of words))
+  -- a verdict is given exactly when there are records enough, the text is read, and the reached instances
+  -- have room
+  pub verdict-given : (checked t records words .number ≡ 0) exactly-when
+      ((8 ≤ records) × (text-refusal t .number ≡ 0) × (length (list t) ≤ room-of words))
   unfolding verdict
   verdict-given = (from every-answer, λ p. ap (λ (a : Answer). a .number) (then-verdict (p .0) (p .1) (p .2)))
     where
-      from : {a : Answer} → Reply t records words a → a .number ≡ 0 → (8 ≤ records) × (text-refusal t .number ≡ 0) × (length (list t) ≤ room-of words)
+      from : {a : Answer} → Reply t records words a → a .number ≡ 0
+          → (8 ≤ records) × (text-refusal t .number ≡ 0) × (length (list t) ≤ room-of words)
       from (short-list h) e = absurd (omega arith)
       from (text-refused h r) e = absurd (r e)
       from (too-many h r l) e = absurd (omega arith)
       from (judged-so h r l) e = (h, r, l)
 
   -- 9 exactly when there are records enough, the text is read, and the reached instances outnumber the room
-  pub nine-given : (checked t records words .number ≡ 9) exactly-when ((8 ≤ records) × (text-refusal t .number ≡ 0) × (room-of words < length (list t)))
+  pub nine-given : (checked t records words .number ≡ 9) exactly-when
+      ((8 ≤ records) × (text-refusal t .number ≡ 0) × (room-of words < length (list t)))
   unfolding verdict
   nine-given = (from every-answer, λ p. ap (λ (a : Answer). a .number) (then-room (p .0) (p .1) (p .2)))
     where
-      from : {a : Answer} → Reply t records words a → a .number ≡ 9 → (8 ≤ records) × (text-refusal t .number ≡ 0) × (room-of words < length (list t))
+      from : {a : Answer} → Reply t records words a → a .number ≡ 9
+          → (8 ≤ records) × (text-refusal t .number ≡ 0) × (room-of words < length (list t))
       from (short-list h) e = absurd (omega arith)
       from (text-refused h r) e = absurd (omega (arith, refusal-bounded t .0))
       from (too-many h r l) e = (h, r, l)
       from (judged-so h r l) e = absurd (omega arith)
 
   -- with records enough, each number from 1 to 8 exactly when reading gives it
-  pub text-number-given : 8 ≤ records → (n : ℕ) → 1 ≤ n → n ≤ 8 → (checked t records words .number ≡ n) exactly-when (text-refusal t .number ≡ n)
+  pub text-number-given : 8 ≤ records → (n : ℕ) → 1 ≤ n → n ≤ 8
+      → (checked t records words .number ≡ n) exactly-when (text-refusal t .number ≡ n)
   unfolding verdict
-  text-number-given h n l u = (from every-answer, λ e. ap (λ (a : Answer). a .number) (then-text h (λ z. omega arith)) ∙ e)
+  text-number-given h n l u = (
+    from every-answer,
+    λ e. ap (λ (a : Answer). a .number)
+        (then-text h (λ z. omega arith)) ∙ e,
+  )
     where
       from : {a : Answer} → Reply t records words a → a .number ≡ n → text-refusal t .number ≡ n
       from (short-list s) e = absurd (omega arith)
@@ -109,10 +140,17 @@ module _ (t : List ℕ) (records words : ℕ) where
       from (judged-so s r m) e = absurd (omega arith)
 
   -- 5 with line 0 exactly when the record list is short: "the one other use of 5"
-  pub short-list-given : ((checked t records words .number ≡ 5) × (checked t records words .line ≡ 0)) exactly-when (records < 8)
+  pub short-list-given : ((checked t records words .number ≡ 5) × (checked t records words .line ≡ 0))
+      exactly-when (records < 8)
   unfolding verdict
-  short-list-given =
-      ((λ p. from every-answer (p .0) (p .1)), λ h. (ap (λ (a : Answer). a .number) (first-short-list h), ap (λ (a : Answer). a .line) (first-short-list h)))
+  short-list-given = (
+    (λ p. from every-answer (p .0) (p .1)),
+    λ h. (
+      ap (λ (a : Answer). a .number) (first-short-list h),
+      ap (λ (a : Answer). a .line)
+          (first-short-list h),
+    ),
+  )
     where
       from : {a : Answer} → Reply t records words a → a .number ≡ 5 → a .line ≡ 0 → records < 8
       from (short-list h) e l = h
@@ -160,7 +198,8 @@ module _ (t : List ℕ) (records words : ℕ) where
       of (judged-so h r l) e = refl
 
   -- "On refusal all 512 bits are clear .. On refusal both counts are 0, and so is any field for the verdict"
-  pub refusal-clear : (checked t records words .number ≡ 0 → ⊥) → checked t records words ≡ refusal (checked t records words .number) (checked t records words .line)
+  pub refusal-clear : (checked t records words .number ≡ 0 → ⊥)
+      → checked t records words ≡ refusal (checked t records words .number) (checked t records words .line)
   unfolding verdict
   refusal-clear = of every-answer
     where
@@ -179,7 +218,8 @@ module _ (t : List ℕ) (records : ℕ) (table : List ℕ) where
   number = checked t records (length table) .number
 
   -- what the kept words and the rest of the table are where a text is read
-  kept-table : 8 ≤ records → text-refusal t .number ≡ 0 → table-after-check t records table ≡ kept-words t room ++ drop (length (kept-words t room)) table
+  kept-table : 8 ≤ records → text-refusal t .number ≡ 0
+      → table-after-check t records table ≡ kept-words t room ++ drop (length (kept-words t room)) table
   unfolding table-after-check table-after
   kept-table h r = rw (le-ltb records 8 h, eq-eqb (text-refusal t .number) 0 r) refl
 
@@ -188,25 +228,31 @@ module _ (t : List ℕ) (records : ℕ) (table : List ℕ) where
   unfolding table-after-check table-after verdict
   table-untouched z n = of (every-answer t records (length table)) z n
     where
-      of : {a : Answer} → Reply t records (length table) a → (a .number ≡ 0 → ⊥) → (a .number ≡ 9 → ⊥) → table-after-check t records table ≡ table
+      of : {a : Answer} → Reply t records (length table) a → (a .number ≡ 0 → ⊥) → (a .number ≡ 9 → ⊥)
+          → table-after-check t records table ≡ table
       of (short-list h) z n = rw (lt-ltb records 8 h) refl
       of (text-refused h r) z n = rw (le-ltb records 8 h, ne-eqb (text-refusal t .number) 0 r) refl
       of (too-many h r l) z n = absurd (n refl)
       of (judged-so h r l) z n = absurd (z refl)
 
   -- "Refusal 9 leaves the first instances found, filling the room, the rest untouched"
-  pub table-filled : number ≡ 9 → table-after-check t records table ≡ take room (map word (list t)) ++ drop room table
+  pub table-filled : number ≡ 9 → table-after-check t records table ≡ take room (map word (list t)) ++ drop
+      room table
   table-filled e =
       let p = nine-given t records (length table) .0 e in
-      let l : length (kept-words t room) ≡ room = omega (arith, length-take room (map word (list t)), length-map (list t) word, p .2) in
+      let l : length (kept-words t room) ≡ room = omega
+      (arith, length-take room (map word (list t)), length-map (list t) word, p .2) in
       kept-table (p .0) (p .1) ∙ ap (λ (k : ℕ). kept-words t room ++ drop k table) l
 
   -- "On a verdict with n reached, the first n words are the list and the rest is untouched"
-  pub table-listed : number ≡ 0 → table-after-check t records table ≡ map word (list t) ++ drop (length (list t)) table
+  pub table-listed : number ≡ 0 → table-after-check t records table ≡ map word (list t) ++ drop
+      (length (list t)) table
   table-listed e =
       let p = verdict-given t records (length table) .0 e in
-      let k : kept-words t room ≡ map word (list t) = take-all room (map word (list t)) (omega (arith, length-map (list t) word, p .2)) in
-      kept-table (p .0) (p .1) ∙ ap (λ (l : List ℕ). l ++ drop (length l) table) k ∙ ap (λ (n : ℕ). map word (list t) ++ drop n table) (length-map (list t) word)
+      let k : kept-words t room ≡ map word (list t) = take-all room (map word (list t))
+      (omega (arith, length-map (list t) word, p .2)) in
+      kept-table (p .0) (p .1) ∙ ap (λ (l : List ℕ). l ++ drop (length l) table) k
+      ∙ ap (λ (n : ℕ). map word (list t) ++ drop n table) (length-map (list t) word)
 
   -- the table is as long as before
   pub table-length : length (table-after-check t records table) ≡ length table
@@ -216,8 +262,10 @@ module _ (t : List ℕ) (records : ℕ) (table : List ℕ) where
       kept-fits : length (kept-words t room) ≤ length table
       kept-fits = omega (arith, length-take room (map word (list t)))
 
-      by-text : (b : Bool) → length (cond b (kept-words t room ++ drop (length (kept-words t room)) table) table) ≡ length table
-      by-text true = length-front table (kept-words t room) (length (kept-words t room)) (sym (length-take-le (length (kept-words t room)) table kept-fits))
+      by-text : (b : Bool) → length (cond b (kept-words t room ++ drop (length (kept-words t room)) table)
+          table) ≡ length table
+      by-text true = length-front table (kept-words t room) (length (kept-words t room))
+          (sym (length-take-le (length (kept-words t room)) table kept-fits))
       by-text false = refl
 
       by-records : (b : Bool) → length (cond b table (table-after t table)) ≡ length table

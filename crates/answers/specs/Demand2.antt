@@ -1,5 +1,7 @@
--- DEMAND 2: on a verdict, the verdict and every shown value are the meaning of the whole model, the list is exactly what is reached, and the counts are theirs.
--- A text that is not refused gives a well-formed model, for which the laws of `meaning` hold; the truth's words have the bits of the list's values.
+-- DEMAND 2: on a verdict, the verdict and every shown value are the meaning of the whole model, the list is
+-- exactly what is reached, and the counts are theirs.
+-- A text that is not refused gives a well-formed model, for which the laws of `meaning` hold; the truth's
+-- words have the bits of the list's values.
 use Prim.Native.Nat.{ℕ, _≤_, _<_}
 use native.Mathlib.Omega.{arith}
 use mathlib.Core.Path.{_≡_, refl, sym, ap, _∙_}
@@ -14,7 +16,8 @@ use Rattle.meaning.specs.Ranges.{signatures, typed, well-formed}
 use Rattle.meaning.specs.Words.{word}
 use Rattle.meaning.specs.Members.{Once}
 use Rattle.meaning.specs.Search.{ReachedBy}
-use Rattle.meaning.specs.Reached.{found-from, reached-once, reached-closed, reached-by-steps, steps-reached, reached-typed, reached-in-order}
+use Rattle.meaning.specs.Reached.{found-from, reached-once, reached-closed, reached-by-steps, steps-reached}
+use Rattle.meaning.specs.Reached.{reached-typed, reached-in-order}
 use Rattle.meaning.specs.Stages.{stage-start, stage-prefix}
 use Rattle.meaning.specs.Table.{narrow}
 use Rattle.meaning.specs.Solving.{table-value}
@@ -25,7 +28,8 @@ use Rattle.truth.specs.Bits.{bit-of, count-below}
 use Rattle.truth.specs.Words.{count-true}
 use Rattle.truth.proofs.Words.{truth-words-bits, truth-words-count}
 use Rattle.answers.specs.declared.Answer.{Answer}
-use Rattle.answers.specs.Answers.{the-model, the-start, list, truth-in, shown-values, room-of, bit, verdict, answer}
+use Rattle.answers.specs.Answers.{the-model, the-start, list, truth-in, shown-values, room-of, bit}
+use Rattle.answers.specs.Answers.{verdict, answer}
 use Rattle.answers.specs.Demand1.{_exactly-when_, verdict-given, then-verdict, records-enough}
 
 -- ---- the list, of a text that is not refused
@@ -36,7 +40,8 @@ module _ (t : List ℕ) (r : text-refusal t .number ≡ 0) where
   -- "The start is number 0"
   pub start-first : (more : List Instance) × (list t ≡ the-start t ∷ more)
   unfolding list
-  start-first = stage-prefix (the-model t) (the-start t) well [] (the-start t ∷ []) (stage-start (the-model t) (the-start t) well)
+  start-first = stage-prefix (the-model t) (the-start t) well [] (the-start t ∷ [])
+      (stage-start (the-model t) (the-start t) well)
 
   -- no instance stands twice
   pub listed-once : Once (list t)
@@ -44,14 +49,20 @@ module _ (t : List ℕ) (r : text-refusal t .number ≡ 0) where
   listed-once = reached-once (the-model t) (the-start t) well
 
   -- with an instance, those left in its simplified right side
-  pub listed-closed : (i : Instance) → Is (mem i (list t)) → (j : Instance) → Is (mem j (next (the-model t) i)) → Is (mem j (list t))
+  pub listed-closed : (i : Instance) → Is (mem i (list t)) → (j : Instance)
+      → Is (mem j (next (the-model t) i)) → Is (mem j (list t))
   unfolding list
   listed-closed = reached-closed (the-model t) (the-start t) well
 
   -- exactly the instances that such steps reach from the start
-  pub listed-exactly : (i : Instance) → Is (mem i (list t)) exactly-when ReachedBy (the-model t) (the-start t) i
+  pub listed-exactly : (i : Instance) → Is (mem i (list t)) exactly-when ReachedBy (the-model t) (the-start t)
+      i
   unfolding list
-  listed-exactly i = (reached-by-steps (the-model t) (the-start t) well i, steps-reached (the-model t) (the-start t) well i)
+  listed-exactly i = (
+    reached-by-steps (the-model t) (the-start t) well i,
+    steps-reached (the-model t)
+        (the-start t) well i,
+  )
 
   -- in order of finding: taken in this order, the instances find just this list
   pub listed-in-order : found-from (the-model t) (the-start t ∷ []) (list t) ≡ list t
@@ -65,10 +76,13 @@ module _ (t : List ℕ) (r : text-refusal t .number ≡ 0) where
 
   -- and its word is no other's
   pub listed-words : (i j : Instance) → Is (mem i (list t)) → Is (mem j (list t)) → word i ≡ word j → i ≡ j
-  listed-words i j m n = word-injective (the-model t) (the-start t) well i j (listed-in-range i m) (listed-in-range j n)
+  listed-words i j m n = word-injective (the-model t) (the-start t) well i j (listed-in-range i m)
+      (listed-in-range j n)
 
-  -- the values of the listed instances do not hang on the others: the system of the listed instances alone has the same solution on them
-  pub others-play-no-part : (e : ℕ) (x : Args) → Is (mem (e ∷ x) (list t)) → solution (narrow (list t) (system 0 (the-model t))) nowhere e x ≡ meaning (the-model t) e x
+  -- the values of the listed instances do not hang on the others: the system of the listed instances alone
+  -- has the same solution on them
+  pub others-play-no-part : (e : ℕ) (x : Args) → Is (mem (e ∷ x) (list t))
+      → solution (narrow (list t) (system 0 (the-model t))) nowhere e x ≡ meaning (the-model t) e x
   unfolding list
   others-play-no-part = table-value (the-model t) (the-start t) well
 
@@ -82,13 +96,15 @@ bit-zero true = ((λ e. absurd (omega arith)), λ n. absurd (n is))
 bit-zero false = ((λ _. never), λ _. refl)
 
 -- the value of an instance is the solution of the whole model there, all arguments in range taking part
-pub value-is-meaning : (t : List ℕ) (e : ℕ) (x : Args) → truth-in (the-model t) (e ∷ x) ≡ meaning (the-model t) e x
+pub value-is-meaning : (t : List ℕ) (e : ℕ) (x : Args)
+    → truth-in (the-model t) (e ∷ x) ≡ meaning (the-model t) e x
 unfolding truth-in
 value-is-meaning t e x = refl
 
 module _ (t : List ℕ) (words : ℕ) (v : answer t words .number ≡ 0) where
   given : (8 ≤ 8) × (text-refusal t .number ≡ 0) × (length (list t) ≤ room-of words)
-  given = verdict-given t 8 words .0 (ap (λ (a : Answer). a .number) (records-enough t 8 words (omega arith)) ∙ v)
+  given = verdict-given t 8 words .0 (ap (λ (a : Answer). a .number) (records-enough t 8 words (omega arith))
+      ∙ v)
 
   -- the text was read
   pub verdict-read : text-refusal t .number ≡ 0
@@ -99,11 +115,14 @@ module _ (t : List ℕ) (words : ℕ) (v : answer t words .number ≡ 0) where
   verdict-room = given .2
 
   answered : answer t words ≡ verdict t
-  answered = sym (records-enough t 8 words (omega arith)) ∙ then-verdict t 8 words (omega arith) verdict-read verdict-room
+  answered = sym (records-enough t 8 words (omega arith))
+      ∙ then-verdict t 8 words (omega arith) verdict-read verdict-room
 
-  verdict-shown : (e : ℕ) (x : Args) → the-start t ≡ e ∷ x → answer t words .verdict ≡ bit (meaning (the-model t) e x)
+  verdict-shown : (e : ℕ) (x : Args) → the-start t ≡ e ∷ x
+      → answer t words .verdict ≡ bit (meaning (the-model t) e x)
   unfolding verdict truth-in
-  verdict-shown e x s = ap (λ (a : Answer). a .verdict) answered ∙ ap (λ (i : Instance). bit (truth-in (the-model t) i)) s
+  verdict-shown e x s = ap (λ (a : Answer). a .verdict) answered
+      ∙ ap (λ (i : Instance). bit (truth-in (the-model t) i)) s
 
   -- the same with the start as it stands
   pub start-exactly : (answer t words .verdict ≡ 1) exactly-when Is (truth-in (the-model t) (the-start t))
@@ -111,11 +130,13 @@ module _ (t : List ℕ) (words : ℕ) (v : answer t words .number ≡ 0) where
   start-exactly = rw answered (bit-one (truth-in (the-model t) (the-start t)))
 
   -- "holds" exactly when the start is true in the meaning of the model
-  pub holds-exactly : (e : ℕ) (x : Args) → the-start t ≡ e ∷ x → (answer t words .verdict ≡ 1) exactly-when Is (meaning (the-model t) e x)
+  pub holds-exactly : (e : ℕ) (x : Args) → the-start t ≡ e ∷ x
+      → (answer t words .verdict ≡ 1) exactly-when Is (meaning (the-model t) e x)
   holds-exactly e x s = rw (verdict-shown e x s) (bit-one (meaning (the-model t) e x))
 
   -- "fails" exactly when it is not
-  pub fails-exactly : (e : ℕ) (x : Args) → the-start t ≡ e ∷ x → (answer t words .verdict ≡ 0) exactly-when (Is (meaning (the-model t) e x) → ⊥)
+  pub fails-exactly : (e : ℕ) (x : Args) → the-start t ≡ e ∷ x
+      → (answer t words .verdict ≡ 0) exactly-when (Is (meaning (the-model t) e x) → ⊥)
   fails-exactly e x s = rw (verdict-shown e x s) (bit-zero (meaning (the-model t) e x))
 
   few : length (shown-values t) ≤ 512
@@ -127,14 +148,16 @@ module _ (t : List ℕ) (words : ℕ) (v : answer t words .number ≡ 0) where
   bits j = rw answered (ap (λ (f : ℕ → Bool). f j) (truth-words-bits (shown-values t) few))
 
   -- "instance j is bit j mod 64 of word j div 64": the bit of each listed instance is its value
-  pub bit-is-value : (j : ℕ) → j < length (list t) → bit-of (answer t words .truth) j ≡ truth-in (the-model t) (getD (list t) j [])
+  pub bit-is-value : (j : ℕ) → j < length (list t)
+      → bit-of (answer t words .truth) j ≡ truth-in (the-model t) (getD (list t) j [])
   unfolding shown-values truth-in
   bit-is-value j h = bits j ∙ List·getD-map (truth-in (the-model t)) (list t) j []
 
   -- "all other bits are clear"
   pub other-bits-clear : (j : ℕ) → length (list t) ≤ j → bit-of (answer t words .truth) j ≡ false
   unfolding shown-values
-  other-bits-clear j h = bits j ∙ List·getD-eq-default (shown-values t) false (omega (arith, length-map (list t) (truth-in (the-model t))))
+  other-bits-clear j h = bits j ∙ List·getD-eq-default (shown-values t) false
+      (omega (arith, length-map (list t) (truth-in (the-model t))))
 
   -- the reached count is the length of the list
   pub reached-counted : answer t words .reached ≡ length (list t)

@@ -1,5 +1,6 @@
 -- DEFINITIONS: what the checking program prints for a text. Document 01, "The checking program".
--- Frames in hexadecimal lines, in small letters: one for each reached instance, then the verdict; on refusal only the refusal.
+-- Frames in hexadecimal lines, in small letters: one for each reached instance, then the verdict; on refusal
+-- only the refusal.
 use Prim.Native.Nat.{ℕ, _/_, _%_}
 use mathlib.Core.Bool.{true, cond}
 use mathlib.Core.List.{List, [], _∷_, _++_}
@@ -15,7 +16,8 @@ use Rattle.answers.specs.Answers.{answer, list, truth-in, the-model, bit
 abbrev pub two-bytes : ℕ → List ℕ
 two-bytes n = n / 256 % 256 ∷ n % 256 ∷ []
 
--- "Per reached instance: `04`, equation, its k arguments, value (00 or 01)"; an instance is its equation's number, then its arguments
+-- "Per reached instance: `04`, equation, its k arguments, value (00 or 01)"; an instance is its equation's
+-- number, then its arguments
 abbrev pub instance-frame : Model → Instance → List ℕ
 instance-frame model i = (0x04 ∷ i) ++ (bit (truth-in model i) ∷ [])
 
@@ -38,7 +40,8 @@ printed t =
     (instance-lines (the-model t) (list t) ++ line-of (verdict-frame (answer t 512)))
     (line-of (refusal-frame (answer t 512)))
 
--- the C entry: "A buffer under 7,693 bytes gives 0 and stays untouched"; "the bytes after them stay as they were"
+-- the C entry: "A buffer under 7,693 bytes gives 0 and stays untouched"; "the bytes after them stay as they
+-- were"
 abbrev pub smallest-buffer : ℕ
 smallest-buffer = 7693
 
@@ -46,4 +49,5 @@ unfoldable pub bytes-written : List ℕ → ℕ → ℕ
 bytes-written t buffer-length = cond (leb smallest-buffer buffer-length) (length (printed t)) 0
 
 unfoldable pub buffer-after : List ℕ → List ℕ → List ℕ
-buffer-after t buffer = take (bytes-written t (length buffer)) (printed t) ++ drop (bytes-written t (length buffer)) buffer
+buffer-after t buffer = take (bytes-written t (length buffer)) (printed t) ++ drop
+    (bytes-written t (length buffer)) buffer

@@ -22,11 +22,13 @@ use Rattle.frames.specs.Lines.{lines-of, all-digits, line-refusal}
 use Rattle.frames.specs.Frames.{frames-from, frames, line-of}
 use Rattle.reading.specs.Equations.{is-valid-head}
 use Rattle.reading.specs.Models.{frames-with, model-of}
-use Rattle.reading.specs.Reading.{equation-refusal, start-refusal, frame-refusal, instances-judged, start-judged, finished}
+use Rattle.reading.specs.Reading.{equation-refusal, start-refusal, frame-refusal, instances-judged}
+use Rattle.reading.specs.Reading.{start-judged, finished}
 use Rattle.reading.specs.Reading.{frames-judged, text-refusal}
 use Rattle.truth.specs.Words.{from-digits, words, count-true}
 use Rattle.answers.specs.declared.Answer.{Answer}
-use Rattle.answers.specs.Answers.{list, truth-in, shown-values, refusal, verdict, judged, answer, table-after, checked, table-after-check}
+use Rattle.answers.specs.Answers.{list, truth-in, shown-values, refusal, verdict, judged, answer}
+use Rattle.answers.specs.Answers.{table-after, checked, table-after-check}
 use Rattle.answers.specs.Printed.{instance-lines, printed}
 
 -- the bytes of a quoted text: n of them from place p on; all of them

@@ -1,4 +1,5 @@
--- DEFINITIONS: the promises of the public operations, for all inputs: one equation for what comes back and one for each lent place.
+-- DEFINITIONS: the promises of the public operations, for all inputs: one equation for what comes back and
+-- one for each lent place.
 -- THEOREMS: one reply for each input. Two replies that a promise allows are equal. (`devashtor_check`
 -- promises `Written`: its one reply is `one-writing`, in printing/specs/Promise.)
 use mathlib.Core.Path.{_≡_}
@@ -13,12 +14,14 @@ use Rattle.checker.specs.declared.ReadAnswer.{ReadAnswer}
 use Rattle.checker.specs.Records.{read-answer, records-after-read, records-after-check}
 
 -- reading the text t, lent `records`: it answers a and leaves `records-left`
-pub record Read (t : List ℕ) (records : List Record) (a : ReadAnswer) (records-left : List Record) : Type 0 where
-  pub answered : a ≡ read-answer t (length records)
-  pub filled : records-left ≡ records-after-read t records
+pub record Read (t : List ℕ) (records : List Record) (a : ReadAnswer) (records-left : List Record) : Type 0
+  where
+    pub answered : a ≡ read-answer t (length records)
+    pub filled : records-left ≡ records-after-read t records
 
 -- checking the text t, lent `records` and `table`: it answers a and leaves `records-left` and `table-left`
-pub record Checked (t : List ℕ) (records : List Record) (table : List ℕ) (a : Answer) (records-left : List Record) (table-left : List ℕ) : Type 0 where
+pub record Checked (t : List ℕ) (records : List Record) (table : List ℕ) (a : Answer)
+    (records-left : List Record) (table-left : List ℕ) : Type 0 where
   pub answered : a ≡ checked t (length records) (length table)
   pub filled : records-left ≡ records-after-check t (length table) records
   pub listed : table-left ≡ table-after-check t (length records) table

@@ -12,7 +12,8 @@ use Rattle.answers.specs.Answers.{checked}
 use Rattle.checker.specs.declared.Record.{Record}
 use Rattle.checker.specs.declared.ReadAnswer.{ReadAnswer}
 
--- "sign, k, four ranges (1 for an absent one), place of the body's first digit in the text (counted from 0), body length in bytes"
+-- "sign, k, four ranges (1 for an absent one), place of the body's first digit in the text (counted from 0),
+-- body length in bytes"
 abbrev pub record-of : Equation → Record
 record-of e = record { sign = e .sign; k = e .k; ranges = e .ranges; place = e .place; length = e .length }
 
@@ -22,15 +23,19 @@ records-of model = map record-of (take (model .count) (model .equations))
 
 -- "Records past the equation count stay as they were, and so do all records on any refusal, 9 included"
 unfoldable pub records-after : ℕ → Model → List Record → List Record
-records-after number model records = cond (eqb number 0) (records-of model ++ drop (model .count) records) records
+records-after number model records = cond (eqb number 0) (records-of model ++ drop (model .count) records)
+    records
 
 -- "Where the list has fewer than eight records the answer is 5, line 0, before any other refusal"
 unfoldable pub read-answer : List ℕ → ℕ → ReadAnswer
 read-answer t records-lent =
-    cond (ltb records-lent 8) (record { number = 5; line = 0 }) (record { number = reading t .number; line = reading t .line })
+    cond (ltb records-lent 8) (record { number = 5; line = 0 })
+    (record { number = reading t .number; line = reading t .line })
 
 unfoldable pub records-after-read : List ℕ → List Record → List Record
-records-after-read t records = records-after (read-answer t (length records) .number) (reading t .model) records
+records-after-read t records = records-after (read-answer t (length records) .number) (reading t .model)
+    records
 
 unfoldable pub records-after-check : List ℕ → ℕ → List Record → List Record
-records-after-check t words-lent records = records-after (checked t (length records) words-lent .number) (reading t .model) records
+records-after-check t words-lent records = records-after (checked t (length records) words-lent .number)
+    (reading t .model) records

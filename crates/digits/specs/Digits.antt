@@ -27,7 +27,8 @@ bytes-of (high ∷ low ∷ rest) = pair-of (worth-of high) (worth-of low) ∷ by
 unfoldable pub padded : List ℕ → List ℕ
 padded bytes = take 256 (bytes ++ replicate 256 0)
 
--- "Text newly made has small letters only": the digit that is worth n; 0, which is no digit, where n is over 15
+-- "Text newly made has small letters only": the digit that is worth n; 0, which is no digit, where n is over
+-- 15
 abbrev pub digit-of : ℕ → ℕ
 digit-of n = cond (leb n 9) (n + 48) (cond (leb n 15) (n + 87) 0)
 

@@ -42,8 +42,12 @@ module _ {t : List ℕ} {m : Model} {bodies entry exit : List ℕ} {w : ℕ} {r 
   ws = map word (list t)
 
   found : FoundIn (the-model t) (the-start t) room entry exit r
-  found = rw (model-is t (s .read .accepted)) at (rw (s .read .records-same, s .read .bodies-same) at (s .finds) (reading t .model .count) (the-start t)
-      (record { model = well-formed-model t (s .read .accepted); named = rw (s .read .records-same, start-is t (s .read .accepted)) at (s .named) }))
+  found = rw (model-is t (s .read .accepted)) at
+      (rw (s .read .records-same, s .read .bodies-same) at (s .finds) (reading t .model .count) (the-start t)
+      (record {
+        model = well-formed-model t (s .read .accepted);
+        named = rw (s .read .records-same, start-is t (s .read .accepted)) at (s .named);
+      }))
 
   kept : exit ≡ take room ws ++ drop (r .count) entry
   unfolding list
@@ -83,7 +87,8 @@ module _ {t : List ℕ} {m : Model} {bodies entry exit : List ℕ} {w : ℕ} {r 
     words-are = ap (take (r .count)) (kept ∙ ap (λ (l : List ℕ). l ++ drop (r .count) entry) all-kept)
         ∙ take-at ws (drop (r .count) entry) (r .count) (length-map (list t) word ∙ sym count-is)
 
-    solvable : Solvable (reading t .bodies) (reading t .model .equations) (reading t .model .count) (take (r .count) exit) (the-start t)
+    solvable : Solvable (reading t .bodies) (reading t .model .equations) (reading t .model .count) (take (r .count) exit)
+        (the-start t)
     unfolding list
     solvable = record {
       model = well-formed-model t (s .read .accepted);
@@ -110,7 +115,8 @@ module _ {t : List ℕ} {m : Model} {bodies entry exit : List ℕ} {w : ℕ} {r 
     truth-is : (truth : List ℕ) → Solves bodies (m .equations) (m .count) (take (r .count) exit) truth
         → truth ≡ truth-words (shown-values t)
     unfolding list shown-values
-    truth-is truth solves = rw (model-is t (s .read .accepted)) at (rw (s .read .records-same, s .read .bodies-same) at solves (the-start t) solvable)
+    truth-is truth solves = rw (model-is t (s .read .accepted)) at
+        (rw (s .read .records-same, s .read .bodies-same) at solves (the-start t) solvable)
 
     pub judged-so : (truth : List ℕ) → Solves bodies (m .equations) (m .count) (take (r .count) exit) truth
         → {a : Answer} → a ≡ judgement (r .count) truth → Judged t entry exit a

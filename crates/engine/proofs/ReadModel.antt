@@ -102,7 +102,8 @@ module _ (t : List ℕ) (accepted : text-refusal t .number ≡ 0) where
   well-formed-model = record { well = rw model-is (reading-well-formed t accepted); wide = wide; formulas = one-formula }
 
   -- a start that is an instance of the model has at most four arguments, so all of them stand in its record
-  start-whole : (sigs : List (List ℕ)) (line : ℕ) (s : List ℕ) → 2 ≤ length s → ((i : ℕ) → length (getD sigs i []) ≤ 4) → Is (typed sigs (start-of s))
+  start-whole : (sigs : List (List ℕ)) (line : ℕ) (s : List ℕ) → 2 ≤ length s → ((i : ℕ) → length (getD sigs i []) ≤ 4)
+      → Is (typed sigs (start-of s))
       → start-record line s .equation ∷ take (start-record line s .count) (start-record line s .arguments) ≡ start-of s
   unfolding start-record typed
   start-whole sigs line [] l f i = absurd (omega arith)
@@ -117,5 +118,6 @@ module _ (t : List ℕ) (accepted : text-refusal t .number ≡ 0) where
   start-is =
       let p = text-passed t accepted in
       ap start-from (drafted .model) ∙
-      start-whole (signatures (model-of (frames t .all))) (first-of (starts-in (frames t .all)) .line) (first-of (starts-in (frames t .all)) .bytes)
+      start-whole (signatures (model-of (frames t .all))) (first-of (starts-in (frames t .all)) .line)
+      (first-of (starts-in (frames t .all)) .bytes)
       (p .frames-kept .begun (p .started)) (held.signatures-short es) (eq→Is (p .starts))

@@ -58,7 +58,8 @@ kept-then {a} {b} {c} {r} {u} p q = record {
 -- what two parts add, one after the other
 added-both : (room : ℕ) (s : FoundWords) (ws us : List ℕ) {m e : FoundWords} {all : List ℕ} → all ≡ ws ++ us → m ≡ add room s ws
     → e ≡ add room m us → e ≡ add room s all
-added-both room s ws us h a b = b ∙ ap (λ (k : FoundWords). add room k us) a ∙ sym (add-append room s ws us) ∙ ap (add room s) (sym h)
+added-both room s ws us h a b = b ∙ ap (λ (k : FoundWords). add room k us) a ∙ sym (add-append room s ws us)
+    ∙ ap (add room s) (sym h)
 
 -- ---- what decides a connective
 same-connective : (around : Around) (all : Bool) (x : Simplified) → (around .within && Bool·beq all (around .all)) ≡ true
@@ -124,7 +125,8 @@ module _ {body : List ℕ} {at : ℕ} {scope : Tuple} {q : ℕ} {kind : Kind} {a
 -- ---- what was gathered may be told of an earlier place, and in other words
 gathered : {C D : Formula → Type 0} {ws us : Formula → List ℕ} {room : ℕ} {body : List ℕ} {k q at k′ q′ at′ : ℕ} {t e : List ℕ}
     {s r next : ℕ} {ok : Bool} → Gathers C ws room body k q at t e s r next → at′ ≤ at
-    → FormulaTold (λ f. D f → found-words e (found-of room r) ≡ add room (found-words t (found-of room s)) (us f)) body (length body)
+    → FormulaTold (λ f. D f → found-words e (found-of room r) ≡ add room (found-words t (found-of room s)) (us f)) body
+    (length body)
     k′ q′ at′ ok next
     → Gathers D us room body k′ q′ at′ t e s r next
 gathered {ok} g l u = record { on = omega (arith, g .on); few = g .few; kept = g .kept; there = ok; told = u }

@@ -91,7 +91,8 @@ pub record Gathers (C : Formula → Type 0) (ws : Formula → List ℕ) (room : 
   pub kept : Kept room entry exit (found-of room s) (found-of room r)
   pub there : Bool
   pub told : FormulaTold
-      (λ f. C f → found-words exit (found-of room r) ≡ add room (found-words entry (found-of room s)) (ws f)) body
+      (λ f. C f → found-words exit (found-of room r) ≡ add room (found-words entry (found-of room s)) (ws f))
+      body
       (length body) k q at there next
 
 -- the words left in the formula, where it is free of the connective around it

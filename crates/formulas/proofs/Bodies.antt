@@ -26,7 +26,8 @@ module _ (equations : List Equation) (count : ℕ) where
   signature-at x l = List·getD-map ranges-of (take count equations) x blank ∙ ap ranges-of (getD-take count equations x blank l)
 
 -- the first of four, with something after them
-four-first : (l z : List ℕ) (k : ℕ) → length l ≡ 4 → k ≤ 4 → take k (getD l 0 0 ∷ getD l 1 0 ∷ getD l 2 0 ∷ getD l 3 0 ∷ z) ≡ take k l
+four-first : (l z : List ℕ) (k : ℕ) → length l ≡ 4 → k ≤ 4
+    → take k (getD l 0 0 ∷ getD l 1 0 ∷ getD l 2 0 ∷ getD l 3 0 ∷ z) ≡ take k l
 four-first [] z k h m = absurd (omega arith)
 four-first (a ∷ []) z k h m = absurd (omega arith)
 four-first (a ∷ b ∷ []) z k h m = absurd (omega arith)
@@ -43,8 +44,10 @@ take-most l k n h false b =
 
 pub signature : (l z : List ℕ) (k r : ℕ) → length l ≡ 4 → r ≡ min k 4
     → (take r (getD l 0 0 ∷ getD l 1 0 ∷ getD l 2 0 ∷ getD l 3 0 ∷ z) ≡ take k l) × ((r ≡ length (take k l)) × (r ≤ 4))
-signature l z k r h e =
-    (rw e (four-first l z (min k 4) h (omega arith) ∙ take-most l k 4 h (leb k 4) refl), (e ∙ sym (length-take k l ∙ ap (min k) h), omega arith))
+signature l z k r h e = (
+  rw e (four-first l z (min k 4) h (omega arith) ∙ take-most l k 4 h (leb k 4) refl),
+  (e ∙ sym (length-take k l ∙ ap (min k) h), omega arith),
+)
 
 -- a body of at most 256 bytes, read with its parameters in reach, against the first `count` of eight equations
 module _ (s : List ℕ) (e : Equation) (equations : List Equation) (count : ℕ) where

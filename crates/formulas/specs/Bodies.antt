@@ -44,6 +44,7 @@ ends e (some a m) = eqb m e
 unfoldable pub is-body : List ℕ → List ℕ → Bool
 is-body s rs = ends (length s) (body-at s rs)
 
--- 7: no instance in it "names no equation, has the wrong n, or an argument whose range exceeds the parameter's"
+-- 7: no instance in it "names no equation, has the wrong n, or an argument whose range exceeds the
+-- parameter's"
 unfoldable pub is-fitting : List (List ℕ) → List ℕ → List ℕ → Bool
 is-fitting signatures s rs = fits signatures (formula-of s rs) rs

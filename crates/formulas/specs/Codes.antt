@@ -1,12 +1,14 @@
 -- DEFINITIONS: the codes of formulas and terms. Document 01, "Text of a model".
--- "A table gives each code from 10 to 23 its kind and number of operands; codes 1b to 1f have none and are refused."
+-- "A table gives each code from 10 to 23 its kind and number of operands; codes 1b to 1f have none and are
+-- refused."
 use Prim.Native.Nat.{ℕ, _-_}
 use mathlib.Core.Bool.{true, false, cond}
 use mathlib.Core.List.{List, [], _∷_}
 use lib.Dec.{leb}
 use lib.ListN.{getD}
 use Rattle.formulas.specs.declared.Kind.{Kind}
-use Rattle.formulas.specs.declared.Kind.the-variants.{NoFormula, Constant, Join, Quantifier, Compare, Instance}
+use Rattle.formulas.specs.declared.Kind.the-variants.{NoFormula, Constant, Join, Quantifier, Compare}
+use Rattle.formulas.specs.declared.Kind.the-variants.{Instance}
 use Rattle.formulas.specs.declared.TermKind.{TermKind}
 use Rattle.formulas.specs.declared.TermKind.the-variants.{NoTerm, Number, Variable, Calculation}
 use Rattle.formulas.specs.declared.Test.the-variants.{Equal, Less, Unequal, NotLess}

@@ -1,4 +1,5 @@
--- What is printed for an examined text is `printed` of the text, at most 7,693 characters, and what the buffer holds then is `buffer-after`.
+-- What is printed for an examined text is `printed` of the text, at most 7,693 characters, and what the buffer holds then is
+-- `buffer-after`.
 -- By cases on the answer: on a verdict the table's first words are those of the reached instances.
 use mathlib.Core.Path.{_≡_, refl, _∙_, ap}
 use Prim.Native.Nat.{ℕ, _+_, _≤_, _<_}
@@ -19,9 +20,11 @@ use Rattle.truth.specs.Bits.{bit-of}
 use Rattle.truth.specs.Words.{truth-words}
 use Rattle.truth.proofs.Words.{truth-words-bits}
 use Rattle.answers.specs.declared.Answer.{Answer}
-use Rattle.answers.specs.Answers.{the-model, the-start, list, truth-in, shown-values, refusal, verdict, judged, answer, room-of, kept-words, table-after}
+use Rattle.answers.specs.Answers.{the-model, the-start, list, truth-in, shown-values, refusal, verdict, judged, answer, room-of}
+use Rattle.answers.specs.Answers.{kept-words, table-after}
 use Rattle.frames.specs.Frames.{line-of}
-use Rattle.answers.specs.Printed.{instance-lines, verdict-frame, refusal-frame, printed, smallest-buffer, bytes-written, buffer-after}
+use Rattle.answers.specs.Printed.{instance-lines, verdict-frame, refusal-frame, printed, smallest-buffer, bytes-written}
+use Rattle.answers.specs.Printed.{buffer-after}
 use Rattle.engine.specs.declared.Examined.{Examined}
 use Rattle.printing.specs.Promise.{Written}
 use Rattle.frames.specs.PutLine.{Puts}
@@ -42,7 +45,8 @@ judged-holds t true less read zero = record { read = read; few = leb-true _ _ le
 judged-holds t false less read zero = absurd (omega (arith, zero))
 
 answer-holds : (t : List ℕ) (b : Bool) → eqb (text-refusal t .number) 0 ≡ b
-    → cond b (judged t 512) (refusal (text-refusal t .number) (text-refusal t .line)) .number ≡ 0 → Holds t (cond b (judged t 512) (refusal (text-refusal t .number) (text-refusal t .line)))
+    → cond b (judged t 512) (refusal (text-refusal t .number) (text-refusal t .line)) .number ≡ 0
+    → Holds t (cond b (judged t 512) (refusal (text-refusal t .number) (text-refusal t .line)))
 unfolding judged
 answer-holds t true read zero = judged-holds t (leb (length (list t)) 512) refl (eqb-true _ _ read) zero
 answer-holds t false read zero = absurd (eqb-false _ _ read zero)
@@ -60,7 +64,13 @@ table-length t table = same (eqb (text-refusal t .number) 0)
     kept = kept-words t (room-of (length table))
 
     same : (b : Bool) → length (cond b (kept ++ drop (length kept) table) table) ≡ length table
-    same true = omega (arith, length-append kept (drop (length kept) table), length-drop (length kept) table, length-take (room-of (length table)) (map word (list t)))
+    same true = omega (
+      arith,
+      length-append kept (drop (length kept) table),
+      length-drop (length kept) table,
+      length-take
+          (room-of (length table)) (map word (list t)),
+    )
     same false = refl
 
 -- ---- a text that was examined with a table of 512 words
@@ -74,7 +84,8 @@ module _ (t : List ℕ) (e : Examined) (blank words : List ℕ) (long : length b
   unfolding verdict table-after
   first-words h =
       let all = take-all 512 (map word (list t)) (omega (arith, length-map (list t) word, h .few)) in
-      rw (is .2, h .is, eq-eqb (text-refusal t .number) 0 (h .read), long, all, ← length-map (list t) word) (take-append-seam (map word (list t)) _)
+      rw (is .2, h .is, eq-eqb (text-refusal t .number) 0 (h .read), long, all, ← length-map (list t) word)
+      (take-append-seam (map word (list t)) _)
 
   all-typed : (h : Holds t (e .answer)) → AllTyped t (h .read) (list t)
   unfolding list
@@ -83,15 +94,20 @@ module _ (t : List ℕ) (e : Examined) (blank words : List ℕ) (long : length b
   pub printable : Printable words e
   unfolding Readable verdict
   printable = record {
-    few = λ zero. let h = holds zero in let n = ap length (is .2) ∙ table-length t blank ∙ long in rw (h .is) (h .few, omega (arith, h .few));
+    few = λ zero. let h = holds zero in let n = ap length (is .2) ∙ table-length t blank
+        ∙ long in rw (h .is) (h .few, omega (arith, h .few));
     readable = λ zero. let h = holds zero in rw (first-words h, is .1) (readable t (h .read) (list t) (all-typed h));
   }
 
-  bits : Holds t (e .answer) → (n : ℕ) → n < length (list t) → bit-of (truth-words (shown-values t)) (0 + n) ≡ getD (map (truth-in (the-model t)) (list t)) n false
+  bits : Holds t (e .answer) → (n : ℕ) → n < length (list t)
+      → bit-of (truth-words (shown-values t)) (0 + n) ≡ getD (map (truth-in (the-model t)) (list t)) n false
   unfolding shown-values
-  bits h n less = rw (zero-add n) (ap (λ (f : ℕ → Bool). f n) (truth-words-bits (shown-values t) (omega (arith, length-map (list t) (truth-in (the-model t)), h .few))))
+  bits h n less = rw (zero-add n) (ap (λ (f : ℕ → Bool). f n)
+      (truth-words-bits (shown-values t) (omega (arith, length-map (list t) (truth-in (the-model t)), h .few))))
 
-  instances-printed : (zero : e .answer .number ≡ 0) → lines-of (e .model .equations) (e .answer .truth) 0 (take (e .answer .reached) words) ≡ instance-lines (the-model t) (list t)
+  instances-printed : (zero : e .answer .number ≡ 0)
+      → lines-of (e .model .equations) (e .answer .truth) 0 (take (e .answer .reached) words) ≡ instance-lines (the-model t)
+      (list t)
   unfolding verdict
   instances-printed zero =
       let h = holds zero in
@@ -102,8 +118,10 @@ module _ (t : List ℕ) (e : Examined) (blank words : List ℕ) (long : length b
   printed-is = rw (← is .0) (same (eqb (e .answer .number) 0) refl)
     where
       same : (b : Bool) → eqb (e .answer .number) 0 ≡ b
-          → cond b (lines-of (e .model .equations) (e .answer .truth) 0 (take (e .answer .reached) words) ++ line-of (verdict-frame (e .answer))) (line-of (refusal-frame (e .answer)))
-          ≡ cond b (instance-lines (the-model t) (list t) ++ line-of (verdict-frame (e .answer))) (line-of (refusal-frame (e .answer)))
+          → cond b (lines-of (e .model .equations) (e .answer .truth) 0 (take (e .answer .reached) words) ++ line-of
+          (verdict-frame (e .answer))) (line-of (refusal-frame (e .answer)))
+          ≡ cond b (instance-lines (the-model t) (list t) ++ line-of (verdict-frame (e .answer)))
+          (line-of (refusal-frame (e .answer)))
       same true zero = rw (instances-printed (eqb-true _ _ zero)) refl
       same false zero = refl
 
@@ -116,7 +134,8 @@ text-short words e p = short (eqb (e .answer .number) 0) refl
     instances = lines-of (e .model .equations) (e .answer .truth) 0 (take (e .answer .reached) words)
 
     short : (b : Bool) → eqb (e .answer .number) 0 ≡ b
-        → length (cond b (instances ++ line-of (verdict-frame (e .answer))) (line-of (refusal-frame (e .answer)))) ≤ smallest-buffer
+        → length (cond b (instances ++ line-of (verdict-frame (e .answer)))
+        (line-of (refusal-frame (e .answer)))) ≤ smallest-buffer
     short true zero =
         let few = p .few (eqb-true _ _ zero) in
         let reached = take (e .answer .reached) words in
@@ -134,20 +153,26 @@ printed-short t =
     let e : Examined = record { answer = answer t 512; model = reading t .model } in
     let blank : List ℕ = replicate 512 0 in
     let words = table-after t blank in
-    rw (printed-is t e blank words refl (refl, refl, refl)) at (text-short words e (printable t e blank words refl (refl, refl, refl)))
+    rw (printed-is t e blank words refl (refl, refl, refl)) at
+    (text-short words e (printable t e blank words refl (refl, refl, refl)))
 
 -- ---- the buffer
 pub buffer-stays : (t out : List ℕ) → length out < smallest-buffer → Written t out 0 out
 unfolding bytes-written buffer-after
-buffer-stays t out less = record { counted = rw (lt-leb smallest-buffer (length out) less) refl; printed = rw (lt-leb smallest-buffer (length out) less) refl }
+buffer-stays t out less = record {
+  counted = rw (lt-leb smallest-buffer (length out) less) refl;
+  printed = rw (lt-leb smallest-buffer (length out) less) refl;
+}
 
-pub buffer-written : (t out out′ : List ℕ) (r : ℕ) → smallest-buffer ≤ length out → Puts out 0 (printed t) r out′ → Written t out r out′
+pub buffer-written : (t out out′ : List ℕ) (r : ℕ) → smallest-buffer ≤ length out → Puts out 0 (printed t) r out′
+    → Written t out r out′
 unfolding bytes-written buffer-after
 buffer-written t out out′ r wide w =
     let short = printed-short t in
     record {
       counted = rw (le-leb smallest-buffer (length out) wide) (w .0 ∙ zero-add (length (printed t)));
-      printed = rw (le-leb smallest-buffer (length out) wide, take-length) (w .1 ∙ sets-eq (printed t) out 0 (omega arith) ∙ rw zero-add refl);
+      printed = rw (le-leb smallest-buffer (length out) wide, take-length) (w .1 ∙ sets-eq (printed t) out 0 (omega arith)
+          ∙ rw zero-add refl);
     }
 
 -- what is written lies within the buffer

@@ -20,6 +20,13 @@ pub parameter-count : (t : List ℕ) → text-refusal t .number ≡ 0 → (e : �
 parameter-count t accepted e h =
     let m = reading t .model in
     let model = model-is t accepted in
-    let below : e < m .count = omega (arith, signatures-length (the-model t), ap length model, model-length (reading t .bodies) (m .equations) (m .count) 0, h) in
+    let below : e < m .count = omega (
+      arith,
+      signatures-length (the-model t),
+      ap length model,
+      model-length (reading t .bodies)
+          (m .equations) (m .count) 0,
+      h,
+    ) in
     ap (λ (q : Model). length (getD (signatures q) e [])) (sym model) ∙
     ap length (signature-there (reading t .bodies) (m .equations) (m .count) e below) ∙ well-formed-model t accepted .wide e below

@@ -1,4 +1,5 @@
--- The lines that are printed from the table's words are those of the text's answer: each word gives its instance back, and each bit is its instance's truth.
+-- The lines that are printed from the table's words are those of the text's answer: each word gives its instance back, and each
+-- bit is its instance's truth.
 -- Everything follows from what examining a text ensures, by induction over the reached instances.
 use mathlib.Core.Path.{_≡_, refl, sym, _∙_, ap}
 use Prim.Native.Nat.{ℕ, zero, suc, _+_, _/_, _≤_, _<_}
@@ -51,27 +52,46 @@ module _ (t : List ℕ) (read : text-refusal t .number ≡ 0) where
       ∙ sym (typed-length (the-model t) (the-start t) sound e x h ∙ parameter-count t read e (equation-there e x h))
 
   -- the frame of an instance from its word
-  frame-back : (i : Instance) → Typed i → word-frame (parameters-of equations (word i)) (word i) (truth-in (the-model t) i) ≡ instance-frame (the-model t) i
+  frame-back : (i : Instance) → Typed i → word-frame (parameters-of equations (word i)) (word i) (truth-in (the-model t) i)
+      ≡ instance-frame (the-model t) i
   unfolding typed word-frame
   frame-back [] h = never h
   frame-back (e ∷ x) h =
-      rw (parameters e x h, word-equation (the-model t) (the-start t) sound e x h, word-arguments (the-model t) (the-start t) sound e x h) refl
+      rw (
+        parameters e x h,
+        word-equation (the-model t) (the-start t) sound e x h,
+        word-arguments (the-model t) (the-start t)
+            sound e x h,
+      ) refl
 
   readable-word : (i : Instance) → Typed i → (word i / 65536 < 8) × (parameters-of equations (word i) ≤ 4)
   unfolding typed
   readable-word [] h = never h
   readable-word (e ∷ x) h =
       let there = equation-there e x h in (
-        omega (arith, word-equation (the-model t) (the-start t) sound e x h, well-formed-count (the-model t) (the-start t) sound, signatures-length (the-model t)),
-        omega (arith, parameters e x h, typed-length (the-model t) (the-start t) sound e x h, ranges-count (the-model t) (the-start t) sound e there),
+        omega (
+          arith,
+          word-equation (the-model t) (the-start t) sound e x h,
+          well-formed-count (the-model t) (the-start t) sound,
+          signatures-length (the-model t),
+        ),
+        omega (
+          arith,
+          parameters e x h,
+          typed-length (the-model t) (the-start t) sound e x h,
+          ranges-count (the-model t)
+              (the-start t) sound e there,
+        ),
       )
 
-  pub readable : (is : List Instance) → AllTyped is → (j : ℕ) → j < length (map word is) → (getD (map word is) j 0 / 65536 < 8) × (parameters-of equations (getD (map word is) j 0) ≤ 4)
+  pub readable : (is : List Instance) → AllTyped is → (j : ℕ) → j < length (map word is) → (getD (map word is) j 0 / 65536 < 8)
+      × (parameters-of equations (getD (map word is) j 0) ≤ 4)
   readable [] h j less = absurd (omega arith)
   readable (i ∷ is) h zero less = readable-word i (h i (mem-head i is))
   readable (i ∷ is) h (suc j) less = readable is (λ k m. h k (mem-tail k i is m)) j (omega arith)
 
-  pub lines-back : (is : List Instance) → AllTyped is → (truth : List ℕ) (j : ℕ) → ((n : ℕ) → n < length is → bit-of truth (j + n) ≡ getD (map (truth-in (the-model t)) is) n false)
+  pub lines-back : (is : List Instance) → AllTyped is → (truth : List ℕ) (j : ℕ)
+      → ((n : ℕ) → n < length is → bit-of truth (j + n) ≡ getD (map (truth-in (the-model t)) is) n false)
       → lines-of equations truth j (map word is) ≡ instance-lines (the-model t) is
   unfolding lines-of instance-lines
   lines-back [] h truth j bits = refl
@@ -79,4 +99,5 @@ module _ (t : List ℕ) (read : text-refusal t .number ≡ 0) where
       let first : bit-of truth j ≡ truth-in (the-model t) i = ap (bit-of truth) (omega arith) ∙ bits 0 (omega arith) in
       rw (first, frame-back i (h i (mem-head i is)))
       (ap (λ (l : List ℕ). line-of (instance-frame (the-model t) i) ++ l)
-      (lines-back is (λ k m. h k (mem-tail k i is m)) truth (suc j) (λ n less. ap (bit-of truth) (omega arith) ∙ bits (suc n) (omega arith))))
+      (lines-back is (λ k m. h k (mem-tail k i is m)) truth (suc j) (λ n less. ap (bit-of truth) (omega arith)
+      ∙ bits (suc n) (omega arith))))

@@ -28,7 +28,8 @@ use Rattle.printing.specs.Lines.{parameters-of, word-frame, lines-of, te
 
 -- ---- the frame of an instance, by how many arguments there are
 value-after : (k e p₀ p₁ p₂ p₃ v : ℕ) → k ≤ 4
-    → take (k + 3) (set (0x04 ∷ e ∷ p₀ ∷ p₁ ∷ p₂ ∷ p₃ ∷ 0 ∷ 0 ∷ []) (k + 2) v) ≡ 0x04 ∷ e ∷ (take k (p₀ ∷ p₁ ∷ p₂ ∷ p₃ ∷ []) ++ (v ∷ []))
+    → take (k + 3) (set (0x04 ∷ e ∷ p₀ ∷ p₁ ∷ p₂ ∷ p₃ ∷ 0 ∷ 0 ∷ []) (k + 2) v)
+    ≡ 0x04 ∷ e ∷ (take k (p₀ ∷ p₁ ∷ p₂ ∷ p₃ ∷ []) ++ (v ∷ []))
 value-after zero e p₀ p₁ p₂ p₃ v h = refl
 value-after (suc zero) e p₀ p₁ p₂ p₃ v h = refl
 value-after (suc (suc zero)) e p₀ p₁ p₂ p₃ v h = refl
@@ -47,7 +48,8 @@ frame-stored w k value is unpacked few =
 
 pub lines-more : (equations : List Equation) (truth : List ℕ) (j : ℕ) (ws : List ℕ) → j < length ws
     → lines-of equations truth j (drop j ws)
-    ≡ line-of (word-frame (parameters-of equations (getD ws j 0)) (getD ws j 0) (bit-of truth j)) ++ lines-of equations truth (j + 1) (drop (j + 1) ws)
+    ≡ line-of (word-frame (parameters-of equations (getD ws j 0)) (getD ws j 0) (bit-of truth j)) ++ lines-of equations truth
+    (j + 1) (drop (j + 1) ws)
 unfolding lines-of
 lines-more equations truth j ws h = rw (drop-cons ws j 0 h, add-one) refl
 
@@ -58,13 +60,20 @@ frame-short k w value =
     let digits = w / 4096 % 16 ∷ w / 256 % 16 ∷ w / 16 % 16 ∷ w % 16 ∷ [] in
     omega (arith, length-append (take k digits) (bit value ∷ []), length-take k digits)
 
-pub lines-short : (equations : List Equation) (truth : List ℕ) (j : ℕ) (ws : List ℕ) → length (lines-of equations truth j ws) ≤ 15 * length ws
+pub lines-short : (equations : List Equation) (truth : List ℕ) (j : ℕ) (ws : List ℕ)
+    → length (lines-of equations truth j ws) ≤ 15 * length ws
 unfolding lines-of
 lines-short equations truth j [] = omega arith
 lines-short equations truth j (w ∷ ws) =
     let f = word-frame (parameters-of equations w) w (bit-of truth j) in
     let rest = lines-of equations truth (suc j) ws in
-    omega (arith, length-append (line-of f) rest, line-length f, frame-short (parameters-of equations w) w (bit-of truth j), lines-short equations truth (suc j) ws)
+    omega (
+      arith,
+      length-append (line-of f) rest,
+      line-length f,
+      frame-short (parameters-of equations w) w (bit-of truth j),
+      lines-short equations truth (suc j) ws,
+    )
 
 -- ---- a whole answer: on a refusal one line, on a verdict the instances' lines and then the verdict's
 module _ (words : List ℕ) (e : Examined) (out : List ℕ) where
@@ -76,7 +85,8 @@ module _ (words : List ℕ) (e : Examined) (out : List ℕ) where
   unfolding text-of
   refused f out′ r wrong is w = rw (ne-eqb _ _ wrong, ← is) w
 
-  pub told : (f middle out′ : List ℕ) (at r : ℕ) → e .answer .number ≡ 0 → f ≡ verdict-frame (e .answer) → Puts out 0 instances at middle
+  pub told : (f middle out′ : List ℕ) (at r : ℕ) → e .answer .number ≡ 0 → f ≡ verdict-frame (e .answer)
+      → Puts out 0 instances at middle
       → Puts middle at (line-of f) r out′ → Puts out 0 (text-of words e) r out′
   unfolding text-of
   told f middle out′ at r right is v w =

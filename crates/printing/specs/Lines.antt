@@ -1,4 +1,5 @@
--- What the private functions print: an answer's lines from its table's words, its truth and its equation records.
+-- What the private functions print: an answer's lines from its table's words, its truth and its equation
+-- records.
 -- That these are the lines of the text's answer is shown in proofs/Answered.
 use mathlib.Core.Path.{_≡_}
 use Prim.Native.Nat.{ℕ, suc, _+_, _/_, _≤_, _<_}
@@ -30,17 +31,20 @@ word-frame k w value = 0x04 ∷ w / 65536 ∷ (arguments-of k w ++ (bit value �
 -- the lines of the words from number j on
 unfoldable pub lines-of : List Equation → List ℕ → ℕ → List ℕ → List ℕ
 lines-of equations truth j [] = []
-lines-of equations truth j (w ∷ ws) = line-of (word-frame (parameters-of equations w) w (bit-of truth j)) ++ lines-of equations truth (suc j) ws
+lines-of equations truth j (w ∷ ws) = line-of
+    (word-frame (parameters-of equations w) w (bit-of truth j)) ++ lines-of equations truth (suc j) ws
 
 unfoldable pub text-of : List ℕ → Examined → List ℕ
 text-of words e =
     cond (eqb (e .answer .number) 0)
-    (lines-of (e .model .equations) (e .answer .truth) 0 (take (e .answer .reached) words) ++ line-of (verdict-frame (e .answer)))
+    (lines-of (e .model .equations) (e .answer .truth) 0 (take (e .answer .reached) words) ++ line-of
+    (verdict-frame (e .answer)))
     (line-of (refusal-frame (e .answer)))
 
 -- every word is that of an equation, which has at most four parameters
 unfoldable pub Readable : List Equation → List ℕ → Type 0
-Readable equations ws = (j : ℕ) → j < length ws → (getD ws j 0 / 65536 < 8) × (parameters-of equations (getD ws j 0) ≤ 4)
+Readable equations ws = (j : ℕ) → j < length ws
+    → (getD ws j 0 / 65536 < 8) × (parameters-of equations (getD ws j 0) ≤ 4)
 
 -- on a verdict, the words of the reached instances are there
 pub record Printable (words : List ℕ) (e : Examined) : Type 0 where

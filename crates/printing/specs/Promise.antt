@@ -1,4 +1,5 @@
--- DEFINITIONS: the promise of the printed lines. Document 01, "What is lent": "They are what the checking program below prints for that text, a refusal's line included;
+-- DEFINITIONS: the promise of the printed lines. Document 01, "What is lent": "They are what the checking
+-- program below prints for that text, a refusal's line included;
 -- the bytes after them stay as they were. A buffer under 7,693 bytes gives 0 and stays untouched."
 use mathlib.Core.Path.{_≡_}
 use Prim.Native.Nat.{ℕ}

@@ -8,8 +8,10 @@ use mathlib.Core.Path.{_≡_, refl, sym, ap, ap₂, _∙_}
 use mathlib.Core.Bool.{Bool, true, false, cond, not, _&&_, true≢false}
 use mathlib.Core.List.{List, [], _∷_, _++_, map, map-append, append-assoc, append-nil}
 use lib.Dec.{eqb, ltb, leb}
-use lib.ListN.{length, getD, take, drop, set, replicate, length-append, length-map, length-replicate, List·getD-append, List·getD-map}
-use lib.Seq.{sets, set-at, take-set-le, drop-set-add, drop-at, length-take-le, take-append-seam, length-sets, sets-eq, getD-append-add}
+use lib.ListN.{length, getD, take, drop, set, replicate, length-append, length-map, length-replicate, List·getD-append}
+use lib.ListN.{List·getD-map}
+use lib.Seq.{sets, set-at, take-set-le, drop-set-add, drop-at, length-take-le, take-append-seam, length-sets, sets-eq}
+use lib.Seq.{getD-append-add}
 use borrow.Author.Tests.{eqb-true, eq-eqb, ltb-true, leb-true}
 use Rattle.frames.specs.Frames.{Frame}
 use Rattle.formulas.specs.declared.Equation.{Equation}
@@ -220,7 +222,8 @@ goes fs f = one (eqb (code-of f) 1) refl
     two false c o e = note o c (frames-other 1 fs f o) (frames-other 2 fs f c)
 
     one : (b : Bool) → eqb (code-of f) 1 ≡ b
-        → cond b (equation-refusal n u (f .bytes)) (cond (eqb (code-of f) 2) (start-refusal n u (f .bytes)) (cond (eqb (code-of f) 3) 0 4)) ≡ 0
+        → cond b (equation-refusal n u (f .bytes))
+        (cond (eqb (code-of f) 2) (start-refusal n u (f .bytes)) (cond (eqb (code-of f) 3) 0 4)) ≡ 0
         → Goes fs f
     one true c e =
         let p = equation-passed n u (f .bytes) e in
@@ -229,7 +232,8 @@ goes fs f = one (eqb (code-of f) 1) refl
     one false c e = two (eqb (code-of f) 2) refl c e
 
 pub kept-more : {fs : List Frame} {f : Frame} → Goes fs f → Kept fs → Kept (fs ++ (f ∷ []))
-kept-more {fs} {f} (equation c l e es ss) k = record { sound = rw es (sound-more (equations-in fs) f (k .sound) l e); begun = rw ss (k .begun) }
+kept-more {fs} {f} (equation c l e es ss) k = record
+    { sound = rw es (sound-more (equations-in fs) f (k .sound) l e); begun = rw ss (k .begun) }
 kept-more {fs} {f} (start o c l es ss) k = record { sound = rw es (k .sound); begun = rw ss (λ h. l) }
 kept-more {fs} {f} (note o c es ss) k = record { sound = rw es (k .sound); begun = rw ss (k .begun) }
 
@@ -244,7 +248,12 @@ record-more : (place : ℕ → ℕ) (es ss : List Frame) (f : Frame) → length 
     ≡ with-equation (model-record place es ss) (f .line) (equation-record (place (f .line)) (f .bytes))
 unfolding model-record with-equation
 record-more place es ss f h =
-    rw (length-append es (f ∷ []), map-more (λ f. equation-record (place (f .line)) (f .bytes)) es f no-equation h, map-more (λ f. f .line) es f 0 h) refl
+    rw (
+      length-append es (f ∷ []),
+      map-more (λ f. equation-record (place (f .line)) (f .bytes)) es f no-equation h,
+      map-more
+          (λ f. f .line) es f 0 h,
+    ) refl
 
 record-start : (place : ℕ → ℕ) (es ss : List Frame) (f : Frame)
     → model-record place es (f ∷ []) ≡ with-start (model-record place es ss) (start-record (f .line) (f .bytes))

@@ -19,7 +19,8 @@ use Rattle.formulas.specs.Bodies.{blank, ranges-of, signatures-of, is-fitting}
 use Rattle.formulas.proofs.Decoded.{body-short}
 use Rattle.reading.specs.declared.Model.{Model}
 use Rattle.reading.specs.declared.Outcome.{Outcome}
-use Rattle.reading.specs.Contract.{stopped, start-from, is-start, fits-at, FirstMisfit, Finishes, no-start, misfits, wrong-start, passes}
+use Rattle.reading.specs.Contract.{stopped, start-from, is-start, fits-at, FirstMisfit, Finishes, no-start, misfits}
+use Rattle.reading.specs.Contract.{wrong-start, passes}
 use Rattle.reading.specs.Contract.{LinesRead}
 use Rattle.reading.specs.Equations.{four-ranges, ranges-in, body-in, equation-of, start-of}
 use Rattle.reading.specs.Models.{frames-with, equations-in, starts-in, is-none, first-of, model-of}
@@ -27,7 +28,8 @@ use Rattle.reading.specs.Reading.{Refusal, refused, instances-judged, st
 use Rattle.reading.specs.Records.{equation-record, start-record, eight, model-record, bodies-over, reading}
 use Rattle.meaning.specs.Logic.{and-false}
 use Rattle.reading.proofs.Starts.{within-length}
-use Rattle.reading.proofs.Drafts.{EquationSound, Sound, Drafted, no-frame, count-is, unstarted-is, length-bodies, body-stored}
+use Rattle.reading.proofs.Drafts.{EquationSound, Sound, Drafted, no-frame, count-is, unstarted-is, length-bodies}
+use Rattle.reading.proofs.Drafts.{body-stored}
 
 -- ---- lists
 eight-length : {A B : Type 0} (g : A → B) (l : List A) (x : B) → length l ≤ 8 → length (eight x (map g l)) ≡ 8
@@ -124,9 +126,12 @@ module _ {place : ℕ → ℕ} {fs : List Frame} {m : Model} {bodies : List ℕ}
   pub fits-there : (j : ℕ) → j < m .count → fits-at m bodies j ≡ fit (getD es j no-frame)
   unfolding fits-at equation-record
   fits-there j h =
-      ap (λ (b : List ℕ). is-fitting (signatures-of (m .equations) (m .count)) b (ranges-of (getD (m .equations) j blank))) (body-there j h) ∙
-      ap (λ (e : Equation). is-fitting (signatures-of (m .equations) (m .count)) (body-in (getD es j no-frame .bytes)) (ranges-of e)) (equation-there j h) ∙
-      ap (λ (s : List (List ℕ)). is-fitting s (body-in (getD es j no-frame .bytes)) (ranges-in (getD es j no-frame .bytes))) signatures-same
+      ap (λ (b : List ℕ). is-fitting (signatures-of (m .equations) (m .count)) b (ranges-of (getD (m .equations) j blank)))
+      (body-there j h) ∙
+      ap (λ (e : Equation). is-fitting (signatures-of (m .equations) (m .count)) (body-in (getD es j no-frame .bytes))
+      (ranges-of e)) (equation-there j h) ∙
+      ap (λ (s : List (List ℕ)). is-fitting s (body-in (getD es j no-frame .bytes)) (ranges-in (getD es j no-frame .bytes)))
+      signatures-same
 
 module _ (sigs : List (List ℕ)) (others : Refusal) where
   abbrev fitting : Frame → Bool
@@ -148,7 +153,8 @@ module _ (sigs : List (List ℕ)) (others : Refusal) where
 
 -- ---- 8: the start of the records, with the first four of its arguments, against that of the frame
 within-four : (sigs : List (List ℕ)) (e : ℕ) (x : List ℕ) → ((i : ℕ) → length (getD sigs i []) ≤ 4)
-    → leb (length x) 4 && typed sigs (e ∷ take (length x) (getD x 0 0 ∷ getD x 1 0 ∷ getD x 2 0 ∷ getD x 3 0 ∷ [])) ≡ typed sigs (e ∷ x)
+    → leb (length x) 4 && typed sigs (e ∷ take (length x) (getD x 0 0 ∷ getD x 1 0 ∷ getD x 2 0 ∷ getD x 3 0 ∷ [])) ≡ typed sigs
+    (e ∷ x)
 unfolding typed within _and_
 within-four sigs e [] f = refl
 within-four sigs e (a ∷ []) f = refl
@@ -161,14 +167,16 @@ within-four sigs e (a ∷ b ∷ c ∷ z ∷ y ∷ x) f =
     (within-length (a ∷ b ∷ c ∷ z ∷ y ∷ x) (getD sigs e []) (λ q. omega (arith, f e, q))) ∙ and-false (ltb e (length sigs))))
 
 start-same : (sigs : List (List ℕ)) (line : ℕ) (f : List ℕ) → 2 ≤ length f → ((i : ℕ) → length (getD sigs i []) ≤ 4)
-    → leb (start-record line f .count) 4 && typed sigs (start-record line f .equation ∷ take (start-record line f .count) (start-record line f .arguments))
+    → leb (start-record line f .count) 4 && typed sigs
+    (start-record line f .equation ∷ take (start-record line f .count) (start-record line f .arguments))
     ≡ typed sigs (start-of f)
 unfolding start-record
 start-same sigs line [] l s = absurd (omega arith)
 start-same sigs line (c ∷ []) l s = absurd (omega arith)
 start-same sigs line (c ∷ e ∷ x) l s = let n : suc (suc (length x)) - 2 ≡ length x = omega arith in rw n (within-four sigs e x s)
 
-pub signatures-short : (fs : List Frame) (i : ℕ) → length (getD (map (λ e. e .ranges) (map (λ f. equation-of (f .bytes)) fs)) i []) ≤ 4
+pub signatures-short : (fs : List Frame) (i : ℕ)
+    → length (getD (map (λ e. e .ranges) (map (λ f. equation-of (f .bytes)) fs)) i []) ≤ 4
 signatures-short [] i = omega arith
 signatures-short (f ∷ fs) zero = omega (arith, length-take (getD (f .bytes) 2 0) (four-ranges (f .bytes)))
 signatures-short (f ∷ fs) (suc i) = signatures-short fs i
@@ -203,14 +211,16 @@ module _ {place : ℕ → ℕ} {fs : List Frame} {m : Model} {bodies : List ℕ}
   start-is s =
       ap (λ (x : List (List ℕ)). leb (m .start .count) 4 && typed x (start-from m)) (signatures-same d) ∙
       ap (λ (x : Model). leb (x .start .count) 4 && typed (signatures (model-of fs)) (start-from x)) (d .model) ∙
-      start-same (signatures (model-of fs)) (first-of (starts-in fs) .line) (first-of (starts-in fs) .bytes) (d .kept .begun (begun s))
+      start-same (signatures (model-of fs)) (first-of (starts-in fs) .line) (first-of (starts-in fs) .bytes)
+      (d .kept .begun (begun s))
       (signatures-short (equations-in fs))
 
   start-line : m .start .line ≡ first-of (starts-in fs) .line
   unfolding model-record start-record
   start-line = ap (λ (x : Model). x .start .line) (d .model)
 
-  all-fit : FirstMisfit m bodies (m .count) → (j : ℕ) → j < length (equations-in fs) → fit d (getD (equations-in fs) j no-frame) ≡ true
+  all-fit : FirstMisfit m bodies (m .count) → (j : ℕ) → j < length (equations-in fs)
+      → fit d (getD (equations-in fs) j no-frame) ≡ true
   all-fit f j h = let l : j < m .count = rw (count-is d) h in sym (fits-there d j l) ∙ f .fit j l
 
   pub ended : {r : Outcome} → Finishes m bodies line r → Ended fs line m r
@@ -225,7 +235,8 @@ module _ {place : ℕ → ℕ} {fs : List Frame} {m : Model} {bodies : List ℕ}
       refused-so 8 _ (omega arith) (rw (begun s) (judged-all (signatures (model-of fs)) _ (equations-in fs) (all-fit f) ∙
       rw (sym (start-is s) ∙ e) (ap (refused 8) (sym start-line))))
   ended (passes s f e) =
-      let z : finished fs line ≡ refused 0 0 = rw (begun s) (judged-all (signatures (model-of fs)) _ (equations-in fs) (all-fit f) ∙ rw (sym (start-is s) ∙ e) refl) in
+      let z : finished fs line ≡ refused 0 0 = rw (begun s) (judged-all (signatures (model-of fs)) _ (equations-in fs) (all-fit f)
+      ∙ rw (sym (start-is s) ∙ e) refl) in
       record {
         number = sym (ap (λ (r : Refusal). r .number) z);
         line-of = sym (ap (λ (r : Refusal). r .line) z);
@@ -245,7 +256,8 @@ lines-refused t after n i e z h = rw e (record {
 })
 
 -- a text whose lines were all read
-pub lines-ended : (t : List ℕ) {m : Model} {after : List ℕ} (d : Drafted (line-place t) (frames t .all) m after) (line : ℕ) {r : Outcome}
+pub lines-ended : (t : List ℕ) {m : Model} {after : List ℕ} (d : Drafted (line-place t) (frames t .all) m after) (line : ℕ)
+    {r : Outcome}
     → text-refusal t ≡ finished (frames t .all) line → Finishes m after line r → LinesRead t after r
 lines-ended t d line h f =
     let e = ended d line f in

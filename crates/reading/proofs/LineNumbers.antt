@@ -16,7 +16,8 @@ use Rattle.meaning.specs.Ranges.{signatures, typed}
 use Rattle.formulas.specs.Bodies.{is-body, is-fitting}
 use Rattle.reading.specs.Equations.{ranges-in, body-in, is-valid-head, start-of}
 use Rattle.reading.specs.Models.{code-of, frames-with, equations-in, starts-in, is-none, first-of, model-of}
-use Rattle.reading.specs.Reading.{equation-refusal, start-refusal, frame-refusal, Refusal, refused, instances-judged, start-judged, finished, frames-judged, text-refusal}
+use Rattle.reading.specs.Reading.{equation-refusal, start-refusal, frame-refusal, Refusal, refused, instances-judged}
+use Rattle.reading.specs.Reading.{start-judged, finished, frames-judged, text-refusal}
 
 -- ---- a text has no more lines than characters
 one-longer : (b : Bool) (c n : ℕ) (l : Line) (ls : List Line) → length ls ≤ n → length (cond b (l ∷ ls) (before c ls)) ≤ suc n
@@ -27,7 +28,8 @@ one-longer false c n l (k ∷ ls) h = omega arith
 lines-length : (s : List ℕ) → length (lines-of s) ≤ length s
 unfolding lines-of
 lines-length [] = omega arith
-lines-length (c ∷ s) = one-longer (eqb c 0x0a) c (length s) (record { characters = []; ended = true }) (lines-of s) (lines-length s)
+lines-length (c ∷ s) = one-longer (eqb c 0x0a) c (length s) (record { characters = []; ended = true }) (lines-of s)
+    (lines-length s)
 
 -- ---- a refusal other than 1 that names a line up to b, or none
 data Named (b : ℕ) : Refusal → Type 0 where
@@ -55,7 +57,8 @@ module _ (b : ℕ) where
   more-within (g ∷ fs) f w l h = (w .0, w .1, more-within fs f (w .2) l h)
 
   -- ---- after the lines
-  start-named : (sigs : List (List ℕ)) (ss : List Frame) → is-none ss ≡ false → Within b ss → Named b (start-judged sigs (first-of ss))
+  start-named : (sigs : List (List ℕ)) (ss : List Frame) → is-none ss ≡ false → Within b ss
+      → Named b (start-judged sigs (first-of ss))
   unfolding start-judged Within
   start-named sigs [] u w = absurd (true≢false u)
   start-named sigs (s ∷ ss) u w = by (typed sigs (start-of (s .bytes)))
@@ -68,9 +71,11 @@ module _ (b : ℕ) where
       → Named b (instances-judged sigs es others)
   unfolding instances-judged Within
   instances-named sigs [] others w o = o
-  instances-named sigs (f ∷ es) others w o = by (is-fitting sigs (body-in (f .bytes)) (ranges-in (f .bytes))) (instances-named sigs es others (w .2) o)
+  instances-named sigs (f ∷ es) others w o = by (is-fitting sigs (body-in (f .bytes)) (ranges-in (f .bytes)))
+      (instances-named sigs es others (w .2) o)
     where
-      by : (c : Bool) → Named b (instances-judged sigs es others) → Named b (cond c (instances-judged sigs es others) (refused 7 (f .line)))
+      by : (c : Bool) → Named b (instances-judged sigs es others)
+          → Named b (cond c (instances-judged sigs es others) (refused 7 (f .line)))
       by true v = v
       by false v = named (lit≤ tt) (lit≤ tt) (w .0) (w .1)
 
@@ -84,7 +89,8 @@ module _ (b : ℕ) where
       by : (c : Bool) → is-none (starts-in fs) ≡ c
           → Named b (cond c (refused 4 i) (instances-judged sigs (equations-in fs) (start-judged sigs (first-of (starts-in fs)))))
       by true u = named (lit≤ tt) (lit≤ tt) l h
-      by false u = instances-named sigs (equations-in fs) _ (some-within 1 fs w) (start-named sigs (starts-in fs) u (some-within 2 fs w))
+      by false u = instances-named sigs (equations-in fs) _ (some-within 1 fs w)
+          (start-named sigs (starts-in fs) u (some-within 2 fs w))
 
 -- ---- the numbers of lines and frames: 0, or from 2 to 8
 Number : ℕ → Type 0
@@ -114,7 +120,8 @@ frame-number n u f = either (eqb (getD f 0 0) 1) _ _ equation-number (either (eq
 
     equation-number : Number (cond (u && ltb n 8) (cond (is-valid-head f) (cond (is-body (body-in f) (ranges-in f)) 0 6) 5) 4)
     equation-number =
-        unless-number (u && ltb n 8) 4 _ (omega arith) (omega arith) (unless-number (is-valid-head f) 5 _ (omega arith) (omega arith)
+        unless-number (u && ltb n 8) 4 _ (omega arith) (omega arith)
+        (unless-number (is-valid-head f) 5 _ (omega arith) (omega arith)
         (unless-number (is-body (body-in f) (ranges-in f)) 6 0 (omega arith) (omega arith) zero-number))
 
     start-number : Number (cond (u && ltb 0 n) (cond (leb 2 (length f)) 0 5) 4)
@@ -131,7 +138,8 @@ module _ (b : ℕ) where
   Ends : ℕ → ℕ → Type 0
   Ends n i = Number n × (1 ≤ i) × (i ≤ b)
 
-  frames-named : (done fs : List Frame) (n i : ℕ) → Within b done → Within b fs → Ends n i → Named b (frames-judged done fs (refused n i))
+  frames-named : (done fs : List Frame) (n i : ℕ) → Within b done → Within b fs → Ends n i
+      → Named b (frames-judged done fs (refused n i))
   unfolding frames-judged Within Ends Number
   frames-named done [] n i w v e = by (eqb n 0) refl
     where
@@ -188,14 +196,22 @@ module _ (t : List ℕ) where
 
   -- every other refusal of a text names a line
   pub refusal-names-line : 1 < text-refusal t .number → 1 ≤ text-refusal t .line
-  refusal-names-line = elim (decLe (length t) 32768) [ yes h ↦ line (short-named h) | no h ↦ rw (long-text-one (omega arith)) (λ z. absurd (omega arith)) ]
+  refusal-names-line = elim (decLe (length t) 32768) [
+    | yes h ↦ line (short-named h)
+    | no h ↦ rw (long-text-one (omega arith))
+        (λ z. absurd (omega arith))
+  ]
     where
       line : {r : Refusal} → Named 32769 r → 1 < r .number → 1 ≤ r .line
       line none z = absurd (omega arith)
       line (named l h m k) z = m
 
   pub refusal-bounded : (text-refusal t .number ≤ 8) × (text-refusal t .line ≤ 32769)
-  refusal-bounded = elim (decLe (length t) 32768) [ yes h ↦ bounded (short-named h) | no h ↦ rw (long-text-one (omega arith)) (lit≤ tt, lit≤ tt) ]
+  refusal-bounded = elim (decLe (length t) 32768) [
+    | yes h ↦ bounded (short-named h)
+    | no h ↦ rw (long-text-one (omega arith))
+        (lit≤ tt, lit≤ tt)
+  ]
     where
       bounded : {r : Refusal} → Named 32769 r → (r .number ≤ 8) × (r .line ≤ 32769)
       bounded none = (lit≤ tt, lit≤ tt)

@@ -35,7 +35,8 @@ module _ (n : ℕ) (f : List ℕ) {started : Bool} where
   unfolding equation-refusal
   equation-ninth s l = rw (s, le-ltb n 8 l) refl
 
-  module _ (s : started ≡ false) (l : n < 8) {e : Equation} (ee : e ≡ equation-record 0 f) {h : Bool} (hh : h ≡ is-head (length f) e) where
+  module _ (s : started ≡ false) (l : n < 8) {e : Equation} (ee : e ≡ equation-record 0 f) {h : Bool}
+      (hh : h ≡ is-head (length f) e) where
     head-is : h ≡ is-valid-head f
     unfolding is-valid-head equation-record
     head-is = hh ∙ rw ee refl

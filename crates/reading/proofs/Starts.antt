@@ -23,7 +23,8 @@ four-tests true true false s = refl
 four-tests true true true false = refl
 four-tests true true true true = refl
 
-pub four-ranges : (l : List ℕ) → length l ≡ 4 → is-range (getD l 0 0) && (is-range (getD l 1 0) && (is-range (getD l 2 0) && is-range (getD l 3 0))) ≡ all-ranges l
+pub four-ranges : (l : List ℕ) → length l ≡ 4
+    → is-range (getD l 0 0) && (is-range (getD l 1 0) && (is-range (getD l 2 0) && is-range (getD l 3 0))) ≡ all-ranges l
 unfolding all-ranges
 four-ranges [] h = absurd (omega arith)
 four-ranges (a ∷ []) h = absurd (omega arith)
@@ -51,7 +52,8 @@ all-four (a ∷ b ∷ c ∷ d ∷ []) h = refl
 all-four (a ∷ b ∷ c ∷ d ∷ e ∷ l) h = absurd (omega arith)
 
 module _ (a b c d p q r s : ℕ) where
-  same-number : (n : ℕ) → n ≤ 4 → asked-four n (a ∷ b ∷ c ∷ d ∷ []) (p ∷ q ∷ r ∷ s ∷ []) ≡ within (take n (a ∷ b ∷ c ∷ d ∷ [])) (take n (p ∷ q ∷ r ∷ s ∷ []))
+  same-number : (n : ℕ) → n ≤ 4 → asked-four n (a ∷ b ∷ c ∷ d ∷ []) (p ∷ q ∷ r ∷ s ∷ []) ≡ within (take n (a ∷ b ∷ c ∷ d ∷ []))
+      (take n (p ∷ q ∷ r ∷ s ∷ []))
   unfolding within _and_
   same-number zero h = refl
   same-number (suc zero) h = four-tests (ltb a p) true true true
@@ -77,10 +79,12 @@ module _ (n k m : ℕ) (x rs : List ℕ) (hx : length x ≡ 4) (hr : length rs �
   same i h =
       subst (λ (l : List ℕ). asked-four i l rs ≡ within (take i l) (take i rs)) (all-four x hx)
       (subst (λ (l : List ℕ). asked-four i (first-four x) l ≡ within (take i (first-four x)) (take i l)) (all-four rs hr)
-      (same-number (getD x 0 0) (getD x 1 0) (getD x 2 0) (getD x 3 0) (getD rs 0 0) (getD rs 1 0) (getD rs 2 0) (getD rs 3 0) i h))
+      (same-number (getD x 0 0) (getD x 1 0) (getD x 2 0) (getD x 3 0) (getD rs 0 0) (getD rs 1 0) (getD rs 2 0) (getD rs 3 0) i
+      h))
 
   wrong-number : (b : Bool) → leb n 4 ≡ b → (n ≡ m → ⊥) → b && within (take n x) (take k rs) ≡ false
-  wrong-number true l h = within-length (take n x) (take k rs) (λ q. h (omega (arith, leb-true n 4 l, length-take n x, length-take k rs, q, hx, hr, e)))
+  wrong-number true l h = within-length (take n x) (take k rs)
+      (λ q. h (omega (arith, leb-true n 4 l, length-take n x, length-take k rs, q, hx, hr, e)))
   wrong-number false l h = refl
 
   judged : (b : Bool) → eqb n m ≡ b → b && asked-four m x rs ≡ leb n 4 && within (take n x) (take k rs)
@@ -100,9 +104,18 @@ module _ (n k m : ℕ) (x rs : List ℕ) (hx : length x ≡ 4) (hr : length rs �
 module _ (m : Model) (l : m .count ≤ length (m .equations)) {i : ℕ} (e : i ≡ m .start .equation) where
   pub start-unnamed : m .count ≤ i → false ≡ is-start m
   unfolding is-start typed _and_
-  start-unnamed h = rw (signatures-length (m .equations) (m .count) l, ← e, le-ltb i (m .count) h) (sym (&&-false (leb (m .start .count) 4)))
+  start-unnamed h = rw (signatures-length (m .equations) (m .count) l, ← e, le-ltb i (m .count) h)
+      (sym (&&-false (leb (m .start .count) 4)))
 
-  pub start-named : {r : Bool} → i < m .count → r ≡ leb (m .start .count) 4 && within (take (m .start .count) (m .start .arguments)) (ranges-of (getD (m .equations) i blank))
+  pub start-named : {r : Bool} → i < m .count
+      → r ≡ leb (m .start .count) 4 && within (take (m .start .count) (m .start .arguments))
+      (ranges-of (getD (m .equations) i blank))
       → r ≡ is-start m
   unfolding is-start typed _and_
-  start-named h f = rw (signatures-length (m .equations) (m .count) l, ← e, lt-ltb i (m .count) h, signature-at (m .equations) (m .count) i h) f
+  start-named h f = rw (
+    signatures-length (m .equations) (m .count) l,
+    ← e,
+    lt-ltb i (m .count) h,
+    signature-at (m .equations)
+        (m .count) i h,
+  ) f

@@ -57,7 +57,13 @@ module _ (t : List ℕ) (at : ℕ) {f : FrameAt} (e : f ≡ frame-at t at) where
   unfolding frame-at
   end-is = ap (λ (f : FrameAt). f .end) e ∙ same (eqb (line-refusal (line-at t at)) 0)
     where
-      same : (b : Bool) → cond b (record { number = 0; end = end-at t at; size = length (line-at t at .characters) / 2; bytes = padded (bytes-of (line-at t at .characters)) }) (refused-at (line-refusal (line-at t at)) (end-at t at)) .end ≡ end-at t at
+      same : (b : Bool) → cond b (record {
+        number = 0;
+        end = end-at t at;
+        size = length (line-at t at .characters) / 2;
+        bytes = padded (bytes-of (line-at t at .characters));
+      }) (refused-at (line-refusal (line-at t at)) (end-at t at)) .end
+          ≡ end-at t at
       same true = refl
       same false = refl
 
@@ -68,7 +74,13 @@ module _ (t : List ℕ) (at : ℕ) {f : FrameAt} (e : f ≡ frame-at t at) where
       (omega (arith, end-is), omega (arith, end-is, most, left))
 
   module _ (z : f .number ≡ 0) where
-    is-frame : f ≡ record { number = 0; end = end-at t at; size = length (line-at t at .characters) / 2; bytes = padded (bytes-of (line-at t at .characters)) }
+    is-frame : f ≡ record {
+      number = 0;
+      end = end-at t at;
+      size = length (line-at t at .characters) / 2;
+      bytes = padded
+          (bytes-of (line-at t at .characters));
+    }
     unfolding frame-at
     is-frame = e ∙ rw (sym number-is ∙ z) refl
 
@@ -115,7 +127,8 @@ module _ (t : List ℕ) (done : List Frame) (line at : ℕ) (h : at < length t) 
     unfolding frames-judged
     frame-stops x = ap (judged done) framed ∙ rw (ne-eqb number 0 x) refl
 
-    pub frame-goes : number ≡ 0 → judged done (frames-at t line at) ≡ judged (done ++ (frame-of line bytes ∷ [])) (frames-at t (line + 1) (f .end + 1))
+    pub frame-goes : number ≡ 0 → judged done (frames-at t line at) ≡ judged (done ++ (frame-of line bytes ∷ []))
+        (frames-at t (line + 1) (f .end + 1))
     unfolding frames-judged
     frame-goes x = ap (judged done) framed ∙ rw (eq-eqb number 0 x) refl
 
@@ -124,7 +137,8 @@ pub all-done : (t : List ℕ) (done : List Frame) (line at : ℕ) → length t �
 unfolding frames-from
 all-done t done line at h = ap (λ (ls : List Line). done ++ frames-from line ls .all) (lines-past t at h) ∙ append-nil done
 
-pub lines-end : (t : List ℕ) (done : List Frame) (line at : ℕ) → length t ≤ at → judged done (frames-at t line at) ≡ finished done line
+pub lines-end : (t : List ℕ) (done : List Frame) (line at : ℕ) → length t ≤ at
+    → judged done (frames-at t line at) ≡ finished done line
 unfolding frames-judged frames-from
 lines-end t done line at h = ap (λ (ls : List Line). judged done (frames-from line ls)) (lines-past t at h) ∙ refl
 

@@ -10,7 +10,8 @@ use lib.ListN.{length, getD, take, length-map, length-take}
 use lib.Seq.{length-take-le}
 use borrow.Author.Tests.{le-leb, leb-true, eqb-true, eqb-false}
 use Rattle.meaning.specs.Logic.{_and_, Is, is, and-i, and-l, and-r, eq→Is}
-use Rattle.meaning.specs.Ranges.{is-range, all-ranges, typed, signatures, well-formed-equation, well-formed-equations, well-formed}
+use Rattle.meaning.specs.Ranges.{is-range, all-ranges, typed, signatures, well-formed-equation, well-formed-equations}
+use Rattle.meaning.specs.Ranges.{well-formed}
 use Rattle.frames.specs.Lines.{line-place}
 use Rattle.frames.specs.Frames.{Frame, frames}
 use Rattle.formulas.specs.Bodies.{formula-of, is-fitting}
@@ -20,7 +21,8 @@ use Rattle.reading.specs.Models.{frames-with, equations-in, starts-in, i
 use Rattle.reading.specs.Reading.{Refusal, refused, instances-judged, start-judged, finished, frames-judged, text-refusal}
 use Rattle.reading.specs.Records.{model-record, kept, bodies-over, reading}
 use Rattle.reading.proofs.Refusals.{&&-left, &&-right}
-use Rattle.reading.proofs.Drafts.{EquationSound, Sound, Kept, Drafted, Goes, goes, refusal-after, kept-none, kept-more, no-frame}
+use Rattle.reading.proofs.Drafts.{EquationSound, Sound, Kept, Drafted, Goes, goes, refusal-after, kept-none, kept-more}
+use Rattle.reading.proofs.Drafts.{no-frame}
 
 -- what 7 and 8 leave beside
 pub record Passed (fs : List Frame) : Type 0 where
@@ -36,7 +38,8 @@ passed true n i r h e = (refl, e)
 passed false n i r h e = absurd (omega arith)
 
 instances-passed : (sigs : List (List ℕ)) (es : List Frame) (others : Refusal) → instances-judged sigs es others .number ≡ 0
-    → ((j : ℕ) → j < length es → let f = getD es j no-frame .bytes in is-fitting sigs (body-in f) (ranges-in f) ≡ true) × (others .number ≡ 0)
+    → ((j : ℕ) → j < length es → let f = getD es j no-frame .bytes in is-fitting sigs (body-in f) (ranges-in f) ≡ true)
+    × (others .number ≡ 0)
 unfolding instances-judged
 instances-passed sigs [] others e = ((λ j h. absurd (omega arith)), e)
 instances-passed sigs (f ∷ es) others e =
@@ -67,7 +70,8 @@ frames-passed done (f ∷ fs) end k =
     by (eqb (refusal-after done (f .bytes)) 0) refl (λ g. frames-passed (done ++ (f ∷ [])) fs end (kept-more (goes done f g) k))
   where
     by : (b : Bool) → eqb (refusal-after done (f .bytes)) 0 ≡ b
-        → (refusal-after done (f .bytes) ≡ 0 → frames-judged (done ++ (f ∷ [])) fs end .number ≡ 0 → Passed ((done ++ (f ∷ [])) ++ fs))
+        → (refusal-after done (f .bytes) ≡ 0 → frames-judged (done ++ (f ∷ [])) fs end .number ≡ 0
+        → Passed ((done ++ (f ∷ [])) ++ fs))
         → cond b (frames-judged (done ++ (f ∷ [])) fs end) (refused (refusal-after done (f .bytes)) (f .line)) .number ≡ 0
         → Passed (done ++ (f ∷ fs))
     by true b g e = subst Passed (append-assoc done (f ∷ []) fs) (g (eqb-true _ 0 b) e)
@@ -97,7 +101,8 @@ ranges-first : (k : ℕ) (l : List ℕ) → Is (all-ranges l) → Is (all-ranges
 unfolding all-ranges
 ranges-first zero l h = is
 ranges-first (suc k) [] h = is
-ranges-first (suc k) (r ∷ l) h = and-i (and-l (is-range r) (all-ranges l) h) (ranges-first k l (and-r (is-range r) (all-ranges l) h))
+ranges-first (suc k) (r ∷ l) h = and-i (and-l (is-range r) (all-ranges l) h)
+    (ranges-first k l (and-r (is-range r) (all-ranges l) h))
 
 equation-well-formed : (sigs : List (List ℕ)) (f : List ℕ) → EquationSound f → is-fitting sigs (body-in f) (ranges-in f) ≡ true
     → Is (well-formed-equation sigs (equation-of f))
@@ -117,15 +122,18 @@ unfolding well-formed-equations
 equations-well-formed sigs [] f = is
 equations-well-formed sigs (e ∷ es) f = and-i (f 0 (omega arith)) (equations-well-formed sigs es (λ j h. f (suc j) (omega arith)))
 
-pub reading-well-formed : (t : List ℕ) → text-refusal t .number ≡ 0 → Is (well-formed (model-of (frames t .all)) (start-in (frames t .all)))
+pub reading-well-formed : (t : List ℕ) → text-refusal t .number ≡ 0
+    → Is (well-formed (model-of (frames t .all)) (start-in (frames t .all)))
 unfolding well-formed model-of
 reading-well-formed t h =
     let p = text-passed t h in
     let es = equations-in (frames t .all) in
     let k = p .frames-kept .sound in
     and-i (and-i
-    (eq→Is (le-leb (length (map (λ f. equation-of (f .bytes)) es)) 8 (omega (arith, length-map es (λ f. equation-of (f .bytes)), k .few))))
-    (equations-well-formed (signatures (model-of (frames t .all))) es (λ j l. equation-well-formed (signatures (model-of (frames t .all))) _ (k .each j l) (p .fit j l))))
+    (eq→Is (le-leb (length (map (λ f. equation-of (f .bytes)) es)) 8
+    (omega (arith, length-map es (λ f. equation-of (f .bytes)), k .few))))
+    (equations-well-formed (signatures (model-of (frames t .all))) es
+    (λ j l. equation-well-formed (signatures (model-of (frames t .all))) _ (k .each j l) (p .fit j l))))
     (eq→Is (p .starts))
 
 -- ---- the structs of every reading hold the frames that are kept

@@ -1,5 +1,6 @@
 -- What the contracts of the reader's inner functions say; no word of the documents is defined here.
--- They speak of the structs that the code has; that these hold the frames read so far is shown in proofs/Drafts.
+-- They speak of the structs that the code has; that these hold the frames read so far is shown in
+-- proofs/Drafts.
 use Prim.Native.Nat.{ℕ, _+_, _*_, _≤_, _<_}
 use mathlib.Core.Path.{_≡_}
 use mathlib.Core.Bool.{Bool, true, false, cond, _&&_}
@@ -59,7 +60,8 @@ is-start m = leb (m .start .count) 4 && typed (signatures-of (m .equations) (m .
 unfoldable pub fits-at : Model → List ℕ → ℕ → Bool
 fits-at m bodies j =
     is-fitting (signatures-of (m .equations) (m .count))
-    (take (getD (m .equations) j blank .length) (drop (256 * j) bodies)) (ranges-of (getD (m .equations) j blank))
+    (take (getD (m .equations) j blank .length) (drop (256 * j) bodies))
+    (ranges-of (getD (m .equations) j blank))
 
 pub record FirstMisfit (m : Model) (bodies : List ℕ) (r : ℕ) : Type 0 where
   pub near : r ≤ m .count
@@ -81,5 +83,6 @@ pub record LinesRead (t after : List ℕ) (r : Outcome) : Type 0 where
   pub number : r .number ≡ text-refusal t .number
   pub line : r .line ≡ text-refusal t .line
   pub nothing : (r .number ≡ 0 → ⊥) → (place : ℕ → ℕ) → r .model ≡ model-record place [] []
-  pub model : r .number ≡ 0 → r .model ≡ model-record (line-place t) (equations-in (frames t .all)) (starts-in (frames t .all))
+  pub model : r .number ≡ 0 → r .model ≡ model-record (line-place t) (equations-in (frames t .all))
+      (starts-in (frames t .all))
   pub bodies : r .number ≡ 0 → after ≡ bodies-of (equations-in (frames t .all))

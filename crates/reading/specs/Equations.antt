@@ -31,7 +31,8 @@ is-valid-head f =
     leb (3 + getD f 2 0) (length f)
     && (leb (getD f 1 0) 1 && (leb (getD f 2 0) 4 && all-ranges (four-ranges f)))
 
--- the equation: "sign (00 least, 01 greatest)", the ranges of its parameters, and the formula that is its body
+-- the equation: "sign (00 least, 01 greatest)", the ranges of its parameters, and the formula that is its
+-- body
 abbrev pub equation-of : List ℕ → ModelEquation
 equation-of f = record {
   greatest = eqb (getD f 1 0) 1;

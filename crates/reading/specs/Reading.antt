@@ -1,5 +1,6 @@
 -- DEFINITIONS: the refusal of a text. Document 01, "Numbers of refusal".
--- "Order: .. 1; then lines from the top, in each line 2, 3, 4, 5, 6; then the missing start; then 7 by line; then
+-- "Order: .. 1; then lines from the top, in each line 2, 3, 4, 5, 6; then the missing start; then 7 by line;
+-- then
 -- 8": the order of the tests below. Refusals 1, 2 and 3 are those of the frames.
 use Prim.Native.Nat.{ℕ}
 use mathlib.Core.Bool.{Bool, cond, _&&_}
@@ -67,7 +68,8 @@ finished fs i =
     (instances-judged (signatures (model-of fs)) (equations-in fs)
     (start-judged (signatures (model-of fs)) (first-of (starts-in fs))))
 
--- the frames of some that are left, after those that are done; then the line at which they end, if it is refused
+-- the frames of some that are left, after those that are done; then the line at which they end, if it is
+-- refused
 unfoldable pub frames-judged : List Frame → List Frame → Refusal → Refusal
 frames-judged done [] end = cond (eqb (end .number) 0) (finished done (end .line)) end
 frames-judged done (f ∷ fs) end =

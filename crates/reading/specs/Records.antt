@@ -16,7 +16,8 @@ use Rattle.reading.specs.Equations.{four-ranges, body-in}
 use Rattle.reading.specs.Models.{equations-in, starts-in, is-none, first-of}
 use Rattle.reading.specs.Reading.{text-refusal}
 
--- "sign, k, four ranges (1 for an absent one), place of the body's first digit in the text (counted from 0), body
+-- "sign, k, four ranges (1 for an absent one), place of the body's first digit in the text (counted from 0),
+-- body
 -- length in bytes": the record of a frame whose first digit stands at place p. After the head comes the body
 unfoldable pub equation-record : ℕ → List ℕ → Equation
 equation-record p f = record {
@@ -43,7 +44,8 @@ no-equation = record { sign = 0; k = 0; ranges = replicate 4 0; place = 0; lengt
 abbrev pub eight : {A : Type 0} → A → List A → List A
 eight x l = l ++ replicate (8 - length l) x
 
--- the records of the frames of some equations and of a start, perhaps; `place` says where a line begins in the text
+-- the records of the frames of some equations and of a start, perhaps; `place` says where a line begins in
+-- the text
 unfoldable pub model-record : (ℕ → ℕ) → List Frame → List Frame → Model
 model-record place equations starts = record {
   count = length equations;

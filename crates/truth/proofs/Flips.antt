@@ -88,7 +88,8 @@ beq-other false true e q = subst T (sym q) tt
 beq-other false false e q = subst T (sym e) tt
 
 -- ---- what `put` does, where the bit is wrong and where it is right
-pub put-flips : (ws : List ℕ) (j : ℕ) (b : Bool) → j / 64 < length ws → (bit-of ws j ≡ b → ⊥) → bit-of (flipped ws j) ≡ updated (bit-of ws) j b
+pub put-flips : (ws : List ℕ) (j : ℕ) (b : Bool) → j / 64 < length ws → (bit-of ws j ≡ b → ⊥)
+    → bit-of (flipped ws j) ≡ updated (bit-of ws) j b
 unfolding updated
 put-flips ws j b h ne = fun-ext λ k. elim (ℕ-discrete k j) [
   | yes e ↦ rw (e, eq-eqb j j refl) (flipped-same ws j h ∙ not-is (bit-of ws j) b ne)

@@ -1,5 +1,6 @@
 -- DEFINITIONS: a set of instances in eight words. Document 01, "What is lent".
--- What a set says is a function from an instance's number to its truth, so that two sets are compared by one equation of functions.
+-- What a set says is a function from an instance's number to its truth, so that two sets are compared by one
+-- equation of functions.
 use mathlib.Core.Bool.{Bool, true, false, cond, _&&_, Bool·beq}
 use mathlib.Core.List.{List}
 use Prim.Native.Nat.{ℕ, zero, suc, _+_, _/_, _%_, _^_}

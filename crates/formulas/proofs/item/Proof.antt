@@ -22,7 +22,8 @@ returns-3 : tie.Need-returns-3
 returns-3 c =
     let a = c .before .before .args in
     let g : length (a .t1 .values) ≡ 8 = search needs in
-    sym (getD-take (a .t1 .count) (a .t1 .values) (a .i) 0 (c .before .if1 .left) ∙ List·getD-eq-default (a .t1 .values) 0 (rw g (c .if2 .left)))
+    sym (getD-take (a .t1 .count) (a .t1 .values) (a .i) 0 (c .before .if1 .left)
+    ∙ List·getD-eq-default (a .t1 .values) 0 (rw g (c .if2 .left)))
 
 pub item-spec : {M : Type 1} → statement M
 item-spec = tie.close (tie.spec returns (λ c. search needs) returns-2 returns-3)

@@ -19,7 +19,8 @@ module _ (c : tie.After-arguments-of) where
 
   unpacked : c .arguments-of .result ≡ argument-tuple (start .args .word) (parameters-of (start .args .t1) (start .args .word))
   unpacked = c .arguments-of .ensures
-      ∙ ap (λ (e : ℕ). argument-tuple (start .args .word) (getD (start .args .t1) e blank .k)) (c .before .before .equation-of .ensures)
+      ∙ ap (λ (e : ℕ). argument-tuple (start .args .word) (getD (start .args .t1) e blank .k))
+      (c .before .before .equation-of .ensures)
 
   few : c .arguments-of .result .count ≤ 4
   few =
@@ -29,7 +30,8 @@ module _ (c : tie.After-arguments-of) where
 returns : tie.Need-returns
 returns c =
     let s = c .before in
-    frame-stored (start s .args .word) _ (start s .args .value) (s .before .before .equation-of .ensures) (unpacked s) (start s .pre .1)
+    frame-stored (start s .args .word) _ (start s .args .value) (s .before .before .equation-of .ensures) (unpacked s)
+    (start s .pre .1)
 
 pub instance-frame-spec : {M : Type 1} → statement M
 instance-frame-spec =

@@ -20,8 +20,11 @@ returns c = buffer-stays (c .before .before .before .args .text .now) (c .before
 put-answer-requires : tie.Need-put-answer-requires
 put-answer-requires c κs =
     let examined = c .before .before .before .examine in
-    let text = c .before .before .before .before .before .before .before .before .args .text .now in
-    (printable text (examined .result) blank (examined .last .1 .0) refl (examined .ensures), c .before .before .before .before .before .if1 .left)
+    let text = c .before .before .before .before .before .before .before .before .args .text .now in (
+      printable text (examined .result) blank (examined .last .1 .0) refl (examined .ensures),
+      c .before .before .before .before
+          .before .if1 .left,
+    )
 
 returns-2 : tie.Need-returns-2
 returns-2 c =

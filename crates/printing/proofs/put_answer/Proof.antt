@@ -16,7 +16,8 @@ returns c =
     let put = c .before .before .put-frame in
     let frame = c .before .before .before .refusal-frame in
     let wrong = c .before .before .before .before .before .if1 .taken in
-    refused (a .words .now) (a .e) (a .out .now) (bytes-of (frame .result)) (put .last .0) (put .result) wrong (frame .ensures .0) (put .ensures)
+    refused (a .words .now) (a .e) (a .out .now) (bytes-of (frame .result)) (put .last .0) (put .result) wrong (frame .ensures .0)
+    (put .ensures)
 
 slice-aggregate-put-instances : tie.Need-slice-aggregate-put-instances
 slice-aggregate-put-instances c =
@@ -36,7 +37,8 @@ put-instances-requires c κs =
 
 put-frame-requires-2 : tie.Need-put-frame-requires-2
 put-frame-requires-2 c κs =
-    let start = c .before .before .before .before .before .before .before .before .before .before .before .before .before .before .before in
+    let start = c .before .before .before .before .before .before .before .before .before .before .before .before .before .before
+    .before in
     let e = start .args .e in
     let words = start .args .words .now in
     let few = start .pre .0 .few (c .before .before .before .before .before .before .before .before .before .before .if1 .left) in
@@ -47,12 +49,15 @@ put-frame-requires-2 c κs =
 
 returns-2 : tie.Need-returns-2
 returns-2 c =
-    let a = c .before .before .before .before .before .before .before .before .before .before .before .before .before .before .before .before .before .before .args in
-    let right = c .before .before .before .before .before .before .before .before .before .before .before .before .before .if1 .left in
+    let a = c .before .before .before .before .before .before .before .before .before .before .before .before .before .before
+    .before .before .before .before .args in
+    let right = c .before .before .before .before .before .before .before .before .before .before .before .before .before .if1
+    .left in
     let instances = c .before .before .before .before .before .before .before .put-instances in
     let frame = c .before .before .before .verdict-frame in
     let put = c .before .before .put-frame2 in
-    told (a .words .now) (a .e) (a .out .now) (bytes-of (frame .result)) (instances .last .0) (put .last .0) (instances .result) (put .result)
+    told (a .words .now) (a .e) (a .out .now) (bytes-of (frame .result)) (instances .last .0) (put .last .0) (instances .result)
+    (put .result)
     right (frame .ensures .0) (instances .ensures) (put .ensures)
 
 pub put-answer-spec : {M : Type 1} → statement M

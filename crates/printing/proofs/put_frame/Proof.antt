@@ -25,7 +25,8 @@ written c =
     let a = c .before .before .before .before .before .before .before .args in
     let eight : length (a .frame .bytes) ≡ 8 = search needs in
     let n = length-take-le (a .frame .count) (a .frame .bytes) (omega arith) in
-    line-puts (a .out .now) (a .at) (take (a .frame .count) (a .frame .bytes)) (omega arith) (c .before .before .put-line .ensures)
+    line-puts (a .out .now) (a .at) (take (a .frame .count) (a .frame .bytes)) (omega arith)
+    (c .before .before .put-line .ensures)
 
 pub put-frame-spec : {M : Type 1} → statement M
 put-frame-spec = tie.close (tie.spec prefix taken (λ c κs. search needs) (λ c. search needs) written)

@@ -34,7 +34,8 @@ record Before (out₀ words : List ℕ) (lines : ℕ → List ℕ) (out : List �
 module _ (equations : List Equation) (truth words out₀ out out′ : List ℕ) (at at′ j : ℕ) (f : List ℕ) where
   turn : Before out₀ words (lines-from equations truth words) out at j → j < length words
       → f ≡ word-frame (parameters-of equations (getD words j 0)) (getD words j 0) (bit-of truth j) → length f ≤ 7
-      → length out′ ≡ length out → Puts out at (line-of f) at′ out′ → Before out₀ words (lines-from equations truth words) out′ at′ (j + 1)
+      → length out′ ≡ length out → Puts out at (line-of f) at′ out′
+      → Before out₀ words (lines-from equations truth words) out′ at′ (j + 1)
   turn b less is short long e =
       let rest = lines-from equations truth words (j + 1) in
       let written = line-then out out′ at at′ (line-of f) rest e in
@@ -65,7 +66,8 @@ loop-holds c = record { within = omega arith; near = omega arith; long = refl; l
 
 instance-frame-requires : tie.Need-instance-frame-requires Inv-loop μ-loop
 unfolding Readable
-instance-frame-requires c κs = c .before .before .before .before .before .before .pre .0 (c .before .before .before .loop .j) (c .before .before .loop-test .taken)
+instance-frame-requires c κs = c .before .before .before .before .before .before .pre .0 (c .before .before .before .loop .j)
+    (c .before .before .loop-test .taken)
 
 put-frame-requires : tie.Need-put-frame-requires Inv-loop μ-loop
 unfolding Readable
@@ -84,11 +86,14 @@ loop-again c =
     let frame = c .before .before .before .before .instance-frame in
     let put = c .before .before .put-frame in
     let less = c .before .before .before .before .before .before .before .loop-test .taken in
-    let few = c .before .before .before .before .before .before .before .before .before .before .before .pre .0 (loop .j) less .1 in
+    let few = c .before .before .before .before .before .before .before .before .before .before .before .pre .0 (loop .j) less
+    .1 in
     let short = length-take (frame .result .count) (frame .result .bytes) in
     let w = getD (a .words .now) (loop .j) 0 in
-    let is = frame .ensures .0 ∙ ap (word-frame (parameters-of (a .equations) w) w) (c .before .before .before .before .before .has .ensures) in
-    turn (a .equations) (a .truth) (a .words .now) (a .out .now) (loop .out) (put .last .0) (loop .at) (put .result) (loop .j) (bytes-of (frame .result))
+    let is = frame .ensures .0 ∙ ap (word-frame (parameters-of (a .equations) w) w)
+    (c .before .before .before .before .before .has .ensures) in
+    turn (a .equations) (a .truth) (a .words .now) (a .out .now) (loop .out) (put .last .0) (loop .at) (put .result) (loop .j)
+    (bytes-of (frame .result))
     (loop .inv) less is (omega (arith, frame .ensures .1)) (put .kept .0) (put .ensures)
 
 same-length : tie.Need-same-length Inv-loop μ-loop
@@ -98,7 +103,8 @@ returns : tie.Need-returns Inv-loop μ-loop
 returns c =
     let loop = c .before .loop in
     let a = c .before .before .before .before .args in
-    done (a .equations) (a .truth) (a .words .now) (a .out .now) (loop .out) [] (loop .at) 0 (loop .j) [] (loop .inv) (omega (arith, loop .inv .within))
+    done (a .equations) (a .truth) (a .words .now) (a .out .now) (loop .out) [] (loop .at) 0 (loop .j) [] (loop .inv)
+    (omega (arith, loop .inv .within))
 
 pub put-instances-spec : {M : Type 1} → statement M
 put-instances-spec =

@@ -6,7 +6,16 @@ use Rattle.printing.proofs.verdict_frame.Statement.{statement}
 use Rattle.printing.proofs.verdict_frame.Tie as tie
 
 returns : tie.Need-returns
-returns c = (rw (c .before .before .before .high .ensures, c .before .before .low .ensures, c .before .high2 .ensures, c .low2 .ensures) refl, refl)
+returns c = (
+  rw (
+    c .before .before .before .high .ensures,
+    c .before .before .low .ensures,
+    c .before .high2 .ensures,
+    c .low2
+        .ensures,
+  ) refl,
+  refl,
+)
 
 pub verdict-frame-spec : {M : Type 1} → statement M
 verdict-frame-spec =

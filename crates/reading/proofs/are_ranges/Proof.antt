@@ -11,7 +11,17 @@ returns : tie.Need-returns
 returns c =
     let a = c .before .before .before .before .before .before .before .args in
     let n : length (a .t1) ≡ 4 = search needs in
-    rw (c .and3 .ensures, c .before .and2 .ensures, c .before .before .and .ensures, c .before .before .before .is-range4 .ensures, c .before .before .before .before .is-range3 .ensures, c .before .before .before .before .before .is-range2 .ensures, c .before .before .before .before .before .before .is-range .ensures) (four-ranges (a .t1) n)
+    rw (
+      c .and3 .ensures,
+      c .before .and2 .ensures,
+      c .before .before .and .ensures,
+      c .before .before .before .is-range4
+          .ensures,
+      c .before .before .before .before .is-range3 .ensures,
+      c .before .before .before .before .before .is-range2
+          .ensures,
+      c .before .before .before .before .before .before .is-range .ensures,
+    ) (four-ranges (a .t1) n)
 
 pub are-ranges-spec : {M : Type 1} → statement M
 are-ranges-spec =

@@ -15,7 +15,8 @@ returns c = rw (c .stop .ensures) (no-start (not-true _ (c .before .if1 .taken))
 returns-2 : tie.Need-returns-2
 returns-2 c =
     let j = c .before .before .before in
-    rw (c .stop2 .ensures) (misfits (not-false _ (j .before .if1 .left)) (c .before .before .if2 .taken) (j .first-misfit .ensures))
+    rw (c .stop2 .ensures) (misfits (not-false _ (j .before .if1 .left)) (c .before .before .if2 .taken)
+    (j .first-misfit .ensures))
 
 -- no equation is left
 all-fit : (c : tie.Else2) → let a = c .before .before .before .before .args in FirstMisfit (a .t2) (a .bodies .now) (a .t2 .count)
@@ -30,12 +31,14 @@ returns-3 c =
     let start = c .before .before .before in
     let all = start .before in
     rw (c .stop3 .ensures)
-    (wrong-start (not-false _ (all .before .before .if1 .left)) (all-fit all) (sym (start .is-valid-start .ensures) ∙ not-true _ (c .before .before .if3 .taken)))
+    (wrong-start (not-false _ (all .before .before .if1 .left)) (all-fit all)
+    (sym (start .is-valid-start .ensures) ∙ not-true _ (c .before .before .if3 .taken)))
 
 returns-4 : tie.Need-returns-4
 returns-4 c =
     let all = c .before .before in
-    passes (not-false _ (all .before .before .if1 .left)) (all-fit all) (sym (c .before .is-valid-start .ensures) ∙ not-false _ (c .if3 .left))
+    passes (not-false _ (all .before .before .if1 .left)) (all-fit all) (sym (c .before .is-valid-start .ensures)
+    ∙ not-false _ (c .if3 .left))
 
 pub finish-spec : {M : Type 1} → statement M
 finish-spec =

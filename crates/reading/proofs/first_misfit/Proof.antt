@@ -41,14 +41,21 @@ one-more : tie.Need-loop-again Inv-loop μ-loop
 one-more c =
     let loop = c .before .before .before .before .before .before .before in
     let a = loop .before .before .args in
-    let fit = sym (said (a .t2) (a .bodies .now) (loop .loop .j) _ _ refl refl (c .before .is-fitting .ensures)) ∙ not-false _ (c .if1 .left) in
-    (omega arith, λ i h. elim (ℕ-discrete i (loop .loop .j)) [ yes e ↦ rw e fit | no d ↦ loop .loop .inv .1 i (omega (arith, d)) ])
+    let fit = sym (said (a .t2) (a .bodies .now) (loop .loop .j) _ _ refl refl (c .before .is-fitting .ensures))
+    ∙ not-false _ (c .if1 .left) in (
+      omega arith,
+      λ i h. elim (ℕ-discrete i (loop .loop .j)) [
+        | yes e ↦ rw e fit
+        | no d ↦ loop .loop .inv .1 i (omega (arith, d))
+      ],
+    )
 
 found : tie.Need-returns Inv-loop μ-loop
 found c =
     let loop = c .before .before .before .before .before .before .before in
     let a = loop .before .before .args in
-    let misfit = sym (said (a .t2) (a .bodies .now) (loop .loop .j) _ _ refl refl (c .before .is-fitting .ensures)) ∙ not-true _ (c .if1 .taken) in
+    let misfit = sym (said (a .t2) (a .bodies .now) (loop .loop .j) _ _ refl refl (c .before .is-fitting .ensures))
+    ∙ not-true _ (c .if1 .taken) in
     record { near = loop .loop .inv .0; fit = loop .loop .inv .1; misfit = λ h. misfit }
 
 none : tie.Need-returns-2 Inv-loop μ-loop
@@ -64,7 +71,8 @@ first-misfit-spec =
     (λ c. omega arith)
     (λ c. omega arith)
     (λ c. omega arith)
-    (λ c. let loop = c .before .before .before in let start = loop .before .before in omega (arith, start .pre .3 (loop .loop .j) (c .before .before .loop-test .taken)))
+    (λ c. let loop = c .before .before .before in let start = loop .before .before in omega
+    (arith, start .pre .3 (loop .loop .j) (c .before .before .loop-test .taken)))
     (λ c. omega arith)
     (λ c. omega arith)
     inside

@@ -14,7 +14,8 @@ returns c =
 returns-2 : tie.Need-returns-2
 returns-2 c =
     let a = c .before .before .before .before .before .args in
-    start-named (a .t1) (omega arith) (c .before .before .before .wide .ensures .0) (c .before .before .if1 .left) (c .start-fits .ensures)
+    start-named (a .t1) (omega arith) (c .before .before .before .wide .ensures .0) (c .before .before .if1 .left)
+    (c .start-fits .ensures)
 
 pub is-valid-start-spec : {M : Type 1} → statement M
 is-valid-start-spec =

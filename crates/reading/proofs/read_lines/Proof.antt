@@ -11,7 +11,8 @@ use Rattle.frames.specs.Frames.{Frame, Frames, frames}
 use Rattle.reading.specs.declared.Model.{Model}
 use Rattle.reading.specs.Models.{equations-in, starts-in, is-none}
 use Rattle.reading.specs.Reading.{frame-refusal, text-refusal}
-use Rattle.reading.proofs.Drafts.{Drafted, drafted-as, frame-of, count-is, unstarted-is, drafted-none, drafted-more, not-ninth}
+use Rattle.reading.proofs.Drafts.{Drafted, drafted-as, frame-of, count-is, unstarted-is, drafted-none, drafted-more}
+use Rattle.reading.proofs.Drafts.{not-ninth}
 use Rattle.reading.proofs.Turns as turn
 use Rattle.reading.proofs.Turns.{judged, frames-at, Begins}
 use Rattle.reading.proofs.Finishing as law
@@ -58,7 +59,8 @@ line-refused c =
     let frame = c .before .before .before in
     let loop = frame .before .before .loop in
     law.lines-refused _ _ _ _ (c .stop2 .ensures) (c .before .if2 .taken)
-    (loop .inv .left ∙ turn.line-stops _ _ _ _ (frame .before .loop-test .taken) (frame .frame-at .ensures) (c .before .if2 .taken))
+    (loop .inv .left ∙ turn.line-stops _ _ _ _ (frame .before .loop-test .taken) (frame .frame-at .ensures)
+    (c .before .if2 .taken))
 
 -- ---- a line that is not refused
 abbrev looked : tie.Else2 Inv-loop μ-loop → tie.After-frame-at Inv-loop μ-loop
@@ -80,7 +82,8 @@ taken c = length-take-le _ _ (rw (whole c) (fits c))
 -- the refusal that the code asks for is that after the frames that are done
 asked : (c : tie.After-frame-refusal Inv-loop μ-loop) → let p = progress (c .before .before .before) .before .loop .inv in
     let f = looked (c .before .before .before) .frame-at .result in
-    c .frame-refusal .result ≡ frame-refusal (length (equations-in (p .done))) (is-none (starts-in (p .done))) (take (f .size) (f .bytes))
+    c .frame-refusal .result ≡ frame-refusal (length (equations-in (p .done))) (is-none (starts-in (p .done)))
+    (take (f .size) (f .bytes))
 asked c =
     let d = progress (c .before .before .before) .before .loop .inv .drafted in
     rw (count-is d, unstarted-is d) at (c .frame-refusal .ensures)
@@ -91,7 +94,8 @@ frame-refused c =
     let number = c .before .before in
     let loop = progress framed .before .loop in
     law.lines-refused _ _ _ _ (c .stop3 .ensures) (c .before .if3 .taken)
-    (loop .inv .left ∙ rw (asked number) (turn.frame-stops _ _ _ _ (progress framed .loop-test .taken) (looked framed .frame-at .ensures)
+    (loop .inv .left ∙ rw (asked number) (turn.frame-stops _ _ _ _ (progress framed .loop-test .taken)
+    (looked framed .frame-at .ensures)
     (framed .if2 .left) (rw (asked number) at (c .before .if3 .taken))))
 
 -- ---- a frame that is not refused
@@ -110,7 +114,8 @@ few : (c : tie.Else3 Inv-loop μ-loop) → let f = looked (framed c) .frame-at .
 few c = let p = loop-at c .loop .inv in not-ninth (p .drafted) _ _ _ (p .begins .place) (passed c)
 
 near : (c : tie.Else3 Inv-loop μ-loop) → let end = looked (framed c) .frame-at .result .end in
-    let at = loop-at c .loop .at in (at ≤ end) × (end ≤ length (loop-at c .before .before .before .before .before .args .text .now))
+    let at = loop-at c .loop .at in (at ≤ end)
+    × (end ≤ length (loop-at c .before .before .before .before .before .args .text .now))
 near c = turn.end-near _ _ (looked (framed c) .frame-at .ensures) (progress (framed c) .loop-test .taken)
 
 keep-requires : tie.Need-keep-body-requires Inv-loop μ-loop
@@ -144,7 +149,8 @@ again c =
       drafted = drafted-as (c .before .with-frame .ensures) (c .before .before .before .before .before .keep-body .ensures)
           (drafted-more (p .drafted) _ _ _ (p .begins .place) (passed frame));
       left = p .left ∙ turn.frame-goes _ _ _ _ inside (read .ensures) zero (passed frame);
-      whole = p .whole ∙ ap (λ (fs : Frames). p .done ++ fs .all) (turn.framed _ (p .done) _ _ inside (read .ensures) zero) ∙ sym (append-assoc (p .done) _ _);
+      whole = p .whole ∙ ap (λ (fs : Frames). p .done ++ fs .all) (turn.framed _ (p .done) _ _ inside (read .ensures) zero)
+          ∙ sym (append-assoc (p .done) _ _);
     }
 
 ends : tie.Need-returns-4 Inv-loop μ-loop
@@ -162,7 +168,8 @@ finish-requires c κs =
     (law.few d, law.eight-equations d, law.bodies-long d, law.body-fits d, law.eight-lines d)
 
 -- the bodies are as long as before
-long : (c : tie.At-loop Inv-loop μ-loop) → length (c .loop .bodies) ≡ length (c .before .before .before .before .before .args .bodies .now)
+long : (c : tie.At-loop Inv-loop μ-loop) → length (c .loop .bodies) ≡ length
+    (c .before .before .before .before .before .args .bodies .now)
 long c =
     let start = c .before .before .before .before .before in
     law.bodies-long (c .loop .inv .drafted) ∙ sym (ap length (start .pre) ∙ length-replicate {A = ℕ} 2048 0)

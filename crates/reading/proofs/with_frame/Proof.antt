@@ -14,7 +14,8 @@ not-ninth c κs = c .before .before .before .before .pre .1 (sym (c .before .bef
 returns : tie.Need-returns
 returns c =
     let code = c .before .before .before in
-    rw (← code .element .ensures, c .before .before .match .keys1, c .with-equation .ensures, c .before .equation-record .ensures) refl
+    rw (← code .element .ensures, c .before .before .match .keys1, c .with-equation .ensures, c .before .equation-record .ensures)
+    refl
 
 returns-2 : tie.Need-returns-2
 returns-2 c =

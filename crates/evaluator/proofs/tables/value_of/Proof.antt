@@ -14,7 +14,8 @@ a-number c =
     let test = c .before .before .before in
     let j = test .before .lookup in
     let table = test .before .before .before .args .table .now in
-    rw (← j .ensures, lt-ltb (j .result) (length table) (test .if1 .taken)) (c .known .ensures ∙ ap known (c .before .has .ensures))
+    rw (← j .ensures, lt-ltb (j .result) (length table) (test .if1 .taken))
+    (c .known .ensures ∙ ap known (c .before .has .ensures))
 
 no-number : tie.Need-returns-2
 unfolding value-in
