@@ -28,7 +28,7 @@ use Rattle.answers.specs.Printed.{buffer-after}
 use Rattle.engine.specs.declared.Examined.{Examined}
 use Rattle.printing.specs.Promise.{Written}
 use Rattle.frames.specs.PutLine.{Puts}
-use Rattle.printing.specs.Lines.{lines-of, text-of, Readable, Printable}
+use Rattle.printing.specs.Lines.{word-lines, answer-text, Readable, Printable}
 use Rattle.printing.proofs.Reached.{AllTyped, readable, lines-back}
 use Rattle.frames.specs.Written.{line-length}
 use Rattle.printing.proofs.Stores.{lines-short}
@@ -106,19 +106,19 @@ module _ (t : List ℕ) (e : Examined) (blank words : List ℕ) (long : length b
       (truth-words-bits (shown-values t) (omega (arith, length-map (list t) (truth-in (the-model t)), h .few))))
 
   instances-printed : (zero : e .answer .number ≡ 0)
-      → lines-of (e .model .equations) (e .answer .truth) 0 (take (e .answer .reached) words) ≡ instance-lines (the-model t)
+      → word-lines (e .model .equations) (e .answer .truth) 0 (take (e .answer .reached) words) ≡ instance-lines (the-model t)
       (list t)
   unfolding verdict
   instances-printed zero =
       let h = holds zero in
       rw (first-words h, is .1, h .is) (lines-back t (h .read) (list t) (all-typed h) (truth-words (shown-values t)) 0 (bits h))
 
-  pub printed-is : text-of words e ≡ printed t
-  unfolding text-of printed
+  pub printed-is : answer-text words e ≡ printed t
+  unfolding answer-text printed
   printed-is = rw (← is .0) (same (eqb (e .answer .number) 0) refl)
     where
       same : (b : Bool) → eqb (e .answer .number) 0 ≡ b
-          → cond b (lines-of (e .model .equations) (e .answer .truth) 0 (take (e .answer .reached) words) ++ line-of
+          → cond b (word-lines (e .model .equations) (e .answer .truth) 0 (take (e .answer .reached) words) ++ line-of
           (verdict-frame (e .answer))) (line-of (refusal-frame (e .answer)))
           ≡ cond b (instance-lines (the-model t) (list t) ++ line-of (verdict-frame (e .answer)))
           (line-of (refusal-frame (e .answer)))
@@ -126,12 +126,12 @@ module _ (t : List ℕ) (e : Examined) (blank words : List ℕ) (long : length b
       same false zero = refl
 
 -- ---- "512 instance lines" of at most 15 characters and the verdict's 13
-text-short : (words : List ℕ) (e : Examined) → Printable words e → length (text-of words e) ≤ smallest-buffer
-unfolding text-of
+text-short : (words : List ℕ) (e : Examined) → Printable words e → length (answer-text words e) ≤ smallest-buffer
+unfolding answer-text
 text-short words e p = short (eqb (e .answer .number) 0) refl
   where
     instances : List ℕ
-    instances = lines-of (e .model .equations) (e .answer .truth) 0 (take (e .answer .reached) words)
+    instances = word-lines (e .model .equations) (e .answer .truth) 0 (take (e .answer .reached) words)
 
     short : (b : Bool) → eqb (e .answer .number) 0 ≡ b
         → length (cond b (instances ++ line-of (verdict-frame (e .answer)))

@@ -25,7 +25,7 @@ use Rattle.truth.specs.Bits.{bit-of}
 use Rattle.answers.specs.Answers.{the-model, the-start, truth-in}
 use Rattle.frames.specs.Frames.{line-of}
 use Rattle.answers.specs.Printed.{instance-frame, instance-lines}
-use Rattle.printing.specs.Lines.{parameters-of, word-frame, lines-of}
+use Rattle.printing.specs.Lines.{parameters-of, word-frame, word-lines}
 use Rattle.printing.proofs.Heads.{parameter-count}
 
 -- ---- a text that was read: its instances and their words
@@ -92,8 +92,8 @@ module _ (t : List ℕ) (read : text-refusal t .number ≡ 0) where
 
   pub lines-back : (is : List Instance) → AllTyped is → (truth : List ℕ) (j : ℕ)
       → ((n : ℕ) → n < length is → bit-of truth (j + n) ≡ getD (map (truth-in (the-model t)) is) n false)
-      → lines-of equations truth j (map word is) ≡ instance-lines (the-model t) is
-  unfolding lines-of instance-lines
+      → word-lines equations truth j (map word is) ≡ instance-lines (the-model t) is
+  unfolding word-lines instance-lines
   lines-back [] h truth j bits = refl
   lines-back (i ∷ is) h truth j bits =
       let first : bit-of truth j ≡ truth-in (the-model t) i = ap (bit-of truth) (omega arith) ∙ bits 0 (omega arith) in

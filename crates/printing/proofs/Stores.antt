@@ -24,7 +24,7 @@ use Rattle.frames.proofs.Stores.{sets-append}
 use Rattle.words.specs.Unpacked.{argument-tuple}
 use Rattle.engine.specs.declared.Examined.{Examined}
 use Rattle.engine.proofs.Starting.{as-byte}
-use Rattle.printing.specs.Lines.{parameters-of, word-frame, lines-of, text-of}
+use Rattle.printing.specs.Lines.{parameters-of, word-frame, word-lines, answer-text}
 
 -- ---- the frame of an instance, by how many arguments there are
 value-after : (k e p₀ p₁ p₂ p₃ v : ℕ) → k ≤ 4
@@ -47,10 +47,10 @@ frame-stored w k value is unpacked few =
     rw (is, unpacked, four, as-byte value) (value-after k _ _ _ _ _ _ few, refl)
 
 pub lines-more : (equations : List Equation) (truth : List ℕ) (j : ℕ) (ws : List ℕ) → j < length ws
-    → lines-of equations truth j (drop j ws)
-    ≡ line-of (word-frame (parameters-of equations (getD ws j 0)) (getD ws j 0) (bit-of truth j)) ++ lines-of equations truth
+    → word-lines equations truth j (drop j ws)
+    ≡ line-of (word-frame (parameters-of equations (getD ws j 0)) (getD ws j 0) (bit-of truth j)) ++ word-lines equations truth
     (j + 1) (drop (j + 1) ws)
-unfolding lines-of
+unfolding word-lines
 lines-more equations truth j ws h = rw (drop-cons ws j 0 h, add-one) refl
 
 -- ---- how long lines are: 7 bytes at most in an instance's frame, so 15 characters
@@ -61,12 +61,12 @@ frame-short k w value =
     omega (arith, length-append (take k digits) (bit value ∷ []), length-take k digits)
 
 pub lines-short : (equations : List Equation) (truth : List ℕ) (j : ℕ) (ws : List ℕ)
-    → length (lines-of equations truth j ws) ≤ 15 * length ws
-unfolding lines-of
+    → length (word-lines equations truth j ws) ≤ 15 * length ws
+unfolding word-lines
 lines-short equations truth j [] = omega arith
 lines-short equations truth j (w ∷ ws) =
     let f = word-frame (parameters-of equations w) w (bit-of truth j) in
-    let rest = lines-of equations truth (suc j) ws in
+    let rest = word-lines equations truth (suc j) ws in
     omega (
       arith,
       length-append (line-of f) rest,
@@ -78,17 +78,17 @@ lines-short equations truth j (w ∷ ws) =
 -- ---- a whole answer: on a refusal one line, on a verdict the instances' lines and then the verdict's
 module _ (words : List ℕ) (e : Examined) (out : List ℕ) where
   abbrev instances : List ℕ
-  instances = lines-of (e .model .equations) (e .answer .truth) 0 (take (e .answer .reached) words)
+  instances = word-lines (e .model .equations) (e .answer .truth) 0 (take (e .answer .reached) words)
 
   pub refused : (f out′ : List ℕ) (r : ℕ) → (e .answer .number ≡ 0 → ⊥) → f ≡ refusal-frame (e .answer)
-      → Puts out 0 (line-of f) r out′ → Puts out 0 (text-of words e) r out′
-  unfolding text-of
+      → Puts out 0 (line-of f) r out′ → Puts out 0 (answer-text words e) r out′
+  unfolding answer-text
   refused f out′ r wrong is w = rw (ne-eqb _ _ wrong, ← is) w
 
   pub told : (f middle out′ : List ℕ) (at r : ℕ) → e .answer .number ≡ 0 → f ≡ verdict-frame (e .answer)
       → Puts out 0 instances at middle
-      → Puts middle at (line-of f) r out′ → Puts out 0 (text-of words e) r out′
-  unfolding text-of
+      → Puts middle at (line-of f) r out′ → Puts out 0 (answer-text words e) r out′
+  unfolding answer-text
   told f middle out′ at r right is v w =
       rw (eq-eqb _ _ right, ← is) (
         omega (arith, length-append instances (line-of f)),

@@ -29,15 +29,15 @@ unfoldable pub word-frame : ℕ → ℕ → Bool → List ℕ
 word-frame k w value = 0x04 ∷ w / 65536 ∷ (arguments-of k w ++ (bit value ∷ []))
 
 -- the lines of the words from number j on
-unfoldable pub lines-of : List Equation → List ℕ → ℕ → List ℕ → List ℕ
-lines-of equations truth j [] = []
-lines-of equations truth j (w ∷ ws) = line-of
-    (word-frame (parameters-of equations w) w (bit-of truth j)) ++ lines-of equations truth (suc j) ws
+unfoldable pub word-lines : List Equation → List ℕ → ℕ → List ℕ → List ℕ
+word-lines equations truth j [] = []
+word-lines equations truth j (w ∷ ws) = line-of
+    (word-frame (parameters-of equations w) w (bit-of truth j)) ++ word-lines equations truth (suc j) ws
 
-unfoldable pub text-of : List ℕ → Examined → List ℕ
-text-of words e =
+unfoldable pub answer-text : List ℕ → Examined → List ℕ
+answer-text words e =
     cond (eqb (e .answer .number) 0)
-    (lines-of (e .model .equations) (e .answer .truth) 0 (take (e .answer .reached) words) ++ line-of
+    (word-lines (e .model .equations) (e .answer .truth) 0 (take (e .answer .reached) words) ++ line-of
     (verdict-frame (e .answer)))
     (line-of (refusal-frame (e .answer)))
 

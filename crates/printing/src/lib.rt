@@ -6,8 +6,8 @@ ghost use Rattle.answers.specs.Printed.{verdict-frame, refusal-frame};
 ghost use Rattle.printing.specs.Promise.{Written};
 ghost use Rattle.frames.specs.Frames.{line-of};
 ghost use Rattle.frames.specs.PutLine.{Puts};
-ghost use Rattle.printing.specs.Lines.{bytes-of, parameters-of, word-frame, lines-of};
-ghost use Rattle.printing.specs.Lines.{Readable, Printable, text-of};
+ghost use Rattle.printing.specs.Lines.{bytes-of, parameters-of, word-frame, word-lines};
+ghost use Rattle.printing.specs.Lines.{Readable, Printable, answer-text};
 use answers::Answer;
 use engine::Examined;
 use formulas::Equation;
@@ -34,7 +34,7 @@ pub fn print_answer(text: &[u8], out: &mut [u8]) -> usize
 // Writes a whole answer from the buffer's first byte on, and gives the number of bytes written.
 fn put_answer(out: &mut [u8], words: &[u32], e: Examined) -> usize
     requires { ⌜ Printable (now words) e × (7693 ≤ length (now out)) ⌝ }
-    ensures { λ r. ⌜ Puts (now (out .entry)) 0 (text-of (now (words .entry)) e) r (now (out .exit)) ⌝ }
+    ensures { λ r. ⌜ Puts (now (out .entry)) 0 (answer-text (now (words .entry)) e) r (now (out .exit)) ⌝ }
 {
     let a = e.answer;
     if a.number != 0 {
@@ -51,7 +51,7 @@ fn put_answer(out: &mut [u8], words: &[u32], e: Examined) -> usize
 fn put_instances(out: &mut [u8], words: &[u32], truth: [u64; 8], equations: [Equation; 8]) -> usize
     requires { ⌜ Readable equations (now words) ×
         ((length (now words) ≤ 512) × (15 * length (now words) ≤ length (now out))) ⌝ }
-    ensures { λ r. ⌜ Puts (now (out .entry)) 0 (lines-of equations truth 0 (now (words .entry))) r
+    ensures { λ r. ⌜ Puts (now (out .entry)) 0 (word-lines equations truth 0 (now (words .entry))) r
         (now (out .exit)) ⌝ }
 {
     let mut at: usize = 0;

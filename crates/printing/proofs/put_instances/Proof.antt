@@ -10,7 +10,7 @@ use Rattle.formulas.specs.declared.Equation.{Equation}
 use Rattle.truth.specs.Bits.{bit-of}
 use Rattle.frames.specs.Frames.{line-of}
 use Rattle.frames.specs.PutLine.{Puts}
-use Rattle.printing.specs.Lines.{bytes-of, parameters-of, word-frame, lines-of, Readable}
+use Rattle.printing.specs.Lines.{bytes-of, parameters-of, word-frame, word-lines, Readable}
 use Rattle.frames.specs.Written.{line-length}
 use Rattle.frames.proofs.Stores.{line-then}
 use Rattle.printing.proofs.Stores.{lines-more}
@@ -20,7 +20,7 @@ use Rattle.printing.proofs.put_instances.Statement.{statement}
 use Rattle.printing.proofs.put_instances.Tie as tie
 
 abbrev lines-from : List Equation → List ℕ → List ℕ → ℕ → List ℕ
-lines-from equations truth words j = lines-of equations truth j (drop j words)
+lines-from equations truth words j = word-lines equations truth j (drop j words)
 
 -- before turn j: the place is near, the buffer as long as it was, and the lines from j on are still to be written
 record Before (out₀ words : List ℕ) (lines : ℕ → List ℕ) (out : List ℕ) (at j : ℕ) : Type 0 where
@@ -49,8 +49,8 @@ module _ (equations : List Equation) (truth words out₀ out out′ : List ℕ) 
       }
 
   done : Before out₀ words (lines-from equations truth words) out at j → j ≡ length words
-      → Puts out₀ 0 (lines-of equations truth 0 words) at out
-  unfolding lines-of
+      → Puts out₀ 0 (word-lines equations truth 0 words) at out
+  unfolding word-lines
   done b e =
       let none : lines-from equations truth words j ≡ [] = rw (e, drop-length) refl in
       (sym (add-zero at) ∙ rw none at (b .place), rw none at (b .left))
