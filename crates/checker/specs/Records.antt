@@ -23,8 +23,8 @@ records-of model = map record-of (take (model .count) (model .equations))
 
 -- "Records past the equation count stay as they were, and so do all records on any refusal, 9 included"
 unfoldable pub records-after : ℕ → Model → List Record → List Record
-records-after number model records = cond (eqb number 0) (records-of model ++ drop (model .count) records)
-    records
+records-after number model records =
+    cond (eqb number 0) (records-of model ++ drop (model .count) records) records
 
 -- "Where the list has fewer than eight records the answer is 5, line 0, before any other refusal"
 unfoldable pub read-answer : List ℕ → ℕ → ReadAnswer

@@ -15,7 +15,7 @@ folded s σ v f =
     between (join-value (s .all)) (known (s .all)) (s .from) (s .to) (λ i. valued f σ (v ++ (i ∷ [])))
 
 -- there is a value in the stretch, and place for its variable
-pub record Foldable (scope : Tuple) (q : ℕ) (s : Stretch) : Type 0 where
+pub record Foldable (scope : Tuple) (s : Stretch) : Type 0 where
   pub some : s .from < s .to
-  pub few : q < 4
-  pub reach : scope .count ≤ 4 + q
+  pub few : s .q < 4
+  pub reach : scope .count ≤ 4 + s .q

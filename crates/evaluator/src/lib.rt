@@ -54,8 +54,10 @@ pub struct WordAt {
     pub next: usize,
 }
 
-// A stretch of a quantifier's values, those from `from` on and below `to`: for all of them, or for some.
+// A stretch of a quantifier's values, those from `from` on and below `to`: for all of them, or for some; q
+// quantifiers stand around it.
 pub struct Stretch {
+    pub q: u8,
     pub all: bool,
     pub from: u8,
     pub to: u8,
@@ -176,18 +178,19 @@ fn value_in(body: &[u8], at: usize, scope: Tuple, q: u8, table: &[u32], truth: &
             next,
         },
         Kind::Join(all) => {
-            let a = value_in(body, next, scope, q, table, truth);
+            // In one place, for a small frame: the first operand, then the second.
+            let mut a = value_in(body, next, scope, q, table, truth);
             let m = a.next;
             if !a.ok {
                 return no_formula();
             }
-            let b = value_in(body, m, scope, q, table, truth);
             let x = a.value;
-            let y = b.value;
+            a = value_in(body, m, scope, q, table, truth);
+            let y = a.value;
             Valued {
-                ok: b.ok,
+                ok: a.ok,
                 value: joined(all, x, y),
-                next: b.next,
+                next: a.next,
             }
         }
         Kind::Quantifier(all) => {
@@ -199,11 +202,12 @@ fn value_in(body: &[u8], at: usize, scope: Tuple, q: u8, table: &[u32], truth: &
                 return no_formula();
             }
             let stretch = Stretch {
+                q,
                 all,
                 from: 0,
                 to: r,
             };
-            fold(body, at + 2, scope, q, stretch, table, truth)
+            fold(body, at + 2, scope, stretch, table, truth)
         }
         Kind::Compare(t) => compare(body, next, scope, t),
         Kind::Instance => instance(body, next, scope, table, truth),
@@ -217,16 +221,17 @@ fn fold(
     body: &[u8],
     at: usize,
     scope: Tuple,
-    q: u8,
     stretch: Stretch,
     table: &[u32],
     truth: &[u64; 8],
 ) -> Valued
-    requires { ⌜ Foldable scope q stretch ⌝ }
+    requires { ⌜ Foldable scope stretch ⌝ }
     ensures { λ r. ⌜ FormulaTold (λ f. r .value ≡ folded stretch
         (value-in (now (table .entry)) (bit-of (now (truth .entry)))) (items scope) f)
-        (now (body .entry)) (length (now (body .entry))) (scope .count + 1) (q + 1) at (r .ok) (r .next) ⌝ }
+        (now (body .entry)) (length (now (body .entry))) (scope .count + 1) (stretch .q + 1) at (r .ok)
+        (r .next) ⌝ }
 {
+    let q = stretch.q;
     let all = stretch.all;
     let from = stretch.from;
     let to = stretch.to;
@@ -236,11 +241,12 @@ fn fold(
     }
     let middle = from + half;
     let first = Stretch {
+        q,
         all,
         from,
         to: middle,
     };
-    let a = fold(body, at, scope, q, first, table, truth);
+    let mut a = fold(body, at, scope, first, table, truth);
     if !a.ok {
         return a;
     }
@@ -249,14 +255,15 @@ fn fold(
         return a;
     }
     let second = Stretch {
+        q,
         all,
         from: middle,
         to,
     };
-    let b = fold(body, at, scope, q, second, table, truth);
-    let y = b.value;
+    a = fold(body, at, scope, second, table, truth);
+    let y = a.value;
     Valued {
-        ok: true,
+        ok: a.ok,
         value: joined(all, x, y),
         next: a.next,
     }

@@ -4,13 +4,12 @@
 use Prim.Native.Nat.{ℕ, _+_, _*_, _≤_, _<_, min}
 use native.Mathlib.Omega.{arith}
 use mathlib.Core.Path.{_≡_, refl, sym, ap, ap₂, subst, _∙_}
-use mathlib.Core.Bool.{Bool, true, false, false≢true, cond}
+use mathlib.Core.Bool.{Bool, true, false, false≢true}
 use mathlib.Core.List.{List, [], _∷_, _++_, map, map-append, append-nil}
-use lib.Dec.{leb}
 use lib.ListN.{length, take, drop, getD, set, length-append, length-set, length-map, take-append-drop}
 use lib.ListN.{List·getD-map, List·getD-eq-default}
 use lib.Seq.{take-suc-set, drop-set-lt, getD-take, getD-at, take-all, take-append-le, length-take-le}
-use borrow.Author.Tests.{lt-ltb, le-ltb, leb-true, leb-false}
+use borrow.Author.Tests.{lt-ltb, le-ltb, ltb-true, ltb-false}
 use Rattle.meaning.specs.Logic.{Is, never}
 use Rattle.meaning.specs.Members.{mem-right, mem-head}
 use Rattle.meaning.specs.Solution.{mem}
@@ -40,27 +39,6 @@ use Rattle.finding.specs.Kept.{found-of, found-words, found-fits, found-
 use Rattle.finding.specs.Gathered.{words-left, apart, GathersLeft}
 use Rattle.finding.specs.Found.{left-in, SideGathers, Searchable, FoundIn}
 use Rattle.finding.proofs.Gathering.{drop-more, kept-same}
-
--- ---- the words found are all of a list, or as many as there is room for
-within-over : (room : ℕ) (ws : List ℕ) {s : FoundWords} → s ≡ found-within room ws → s .1 ≡ true
-    → (room < length ws) × (s .0 ≡ take room ws)
-unfolding found-within
-within-over room ws {s} e h = go (leb (length ws) room) refl e
-  where
-    go : (b : Bool) → leb (length ws) room ≡ b → s ≡ cond b (ws, false) (take room ws, true)
-        → (room < length ws) × (s .0 ≡ take room ws)
-    go true p q = absurd (false≢true (sym (ap (λ (k : FoundWords). k .1) q) ∙ h))
-    go false p q = (leb-false _ _ p, ap (λ (k : FoundWords). k .0) q)
-
-within-fits : (room : ℕ) (ws : List ℕ) {s : FoundWords} → s ≡ found-within room ws → s .1 ≡ false
-    → (length ws ≤ room) × (s .0 ≡ ws)
-unfolding found-within
-within-fits room ws {s} e h = go (leb (length ws) room) refl e
-  where
-    go : (b : Bool) → leb (length ws) room ≡ b → s ≡ cond b (ws, false) (take room ws, true)
-        → (length ws ≤ room) × (s .0 ≡ ws)
-    go true p q = (leb-true _ _ p, ap (λ (k : FoundWords). k .0) q)
-    go false p q = absurd (false≢true (sym h ∙ ap (λ (k : FoundWords). k .1) q))
 
 -- ---- the words of a beginning
 take-beginning : (n : ℕ) (l k : List Instance) → Begins l k → n ≤ length k → take n (map word k) ≡ take n (map word l)
@@ -271,9 +249,10 @@ module _ {bodies : List ℕ} {equations : List Equation} {start count : ℕ} {fi
 
         pub search-over : room < r → FoundIn model first room t₀ t′ (record { count = room; over = true })
         search-over h =
-            let p = within-over room (map word found′) (sym (found-over room t′ h) ∙ filled) refl in
-            let more′ : room < length found′ = omega (arith, p .0, length-map found′ word) in
-            let whole = p .1 ∙ take-beginning room l found′ begins (omega arith) in
+            let p = sym (found-over room t′ h) ∙ filled in
+            let more′ = ltb-true room (length (map word found′)) (sym (ap (λ (k : FoundWords). k .1) p)) in
+            let long = length-map found′ word in
+            let whole = ap (λ (k : FoundWords). k .0) p ∙ take-beginning room l found′ begins (omega arith) in
             let full : min r room ≡ room = omega arith in
             let rest = rw full at (g .kept .rest) in
             record {
@@ -284,15 +263,17 @@ module _ {bodies : List ℕ} {equations : List Equation} {start count : ℕ} {fi
 
         next-stage : r ≤ room → AtStage model first t′ r (i + 1)
         next-stage h =
-            let p = within-fits room (map word found′) (sym (found-fits room t′ h) ∙ filled) refl in
+            let p = sym (found-fits room t′ h) ∙ filled in
+            let all = ltb-false room (length (map word found′)) (sym (ap (λ (k : FoundWords). k .1) p)) in
+            let whole = ap (λ (k : FoundWords). k .0) p ∙ take-all room (map word found′) all in
             let long = length-take-le r t′ (omega (arith, g .kept .size, s .size, s .lent)) in
             record {
               done = at .done ++ (taking ∷ []);
               todo = later ++ new model (at .done) taking later;
               stage = stage′;
               taken = length-append (at .done) (taking ∷ []) ∙ ap (λ (k : ℕ). k + 1) (at .taken);
-              counted = ap length same-found′ ∙ sym (length-map found′ word) ∙ sym (ap length (p .1)) ∙ long;
-              words = p .1 ∙ ap (map word) (sym same-found′);
+              counted = ap length same-found′ ∙ sym (length-map found′ word) ∙ sym (ap length whole) ∙ long;
+              words = whole ∙ ap (map word) (sym same-found′);
             }
 
 -- one more instance is taken

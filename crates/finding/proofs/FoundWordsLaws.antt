@@ -1,21 +1,21 @@
 -- Adding the words of instances to a table is finding the fresh ones among them, as far as there is room.
 -- By induction over the instances: a word is in the table exactly when its instance is among those found, since typed
 -- instances have different words.
-use Prim.Native.Nat.{ℕ, zero, suc, _+_, _≤_, _<_}
+use Prim.Native.Nat.{ℕ, suc, _≤_, _<_}
 use native.Mathlib.Omega.{arith}
-use native.Mathlib.Decide.{decLe, decLt}
-use mathlib.Core.Path.{_≡_, refl, sym, ap, subst, _∙_}
+use native.Mathlib.Decide.{decLt}
+use mathlib.Core.Path.{_≡_, refl, sym, ap, _∙_}
 use mathlib.Core.Bool.{Bool, true, false, cond}
 use mathlib.Core.List.{List, [], _∷_, _++_, map, map-append, append-assoc, append-nil}
 use mathlib.Core.Logic.{_⊎_, inl, inr}
-use lib.Dec.{eqb, ltb, leb, eqb-refl, eqb→eq, leb·suc-suc}
-use lib.ListN.{length, take, length-append, length-map}
-use lib.Seq.{take-at, take-append-le}
-use borrow.Author.Tests.{lt-ltb, le-ltb, le-leb, lt-leb, ltb-true, eq-eqb, ne-eqb, eqb-false}
-use Rattle.meaning.specs.Logic.{_and_, _or_, Is, is, never, or-l, or-r, or-e, same-truth, Is→T, T→Is, Is→eq}
+use lib.Dec.{eqb, ltb, eqb→eq, leb·suc-suc}
+use lib.ListN.{length, length-append, length-map}
+use lib.Seq.{take-at, take-all}
+use borrow.Author.Tests.{lt-ltb, le-ltb, eqb-false}
+use Rattle.meaning.specs.Logic.{_or_, Is, or-l, or-r, or-e, same-truth, Is→eq}
 use Rattle.meaning.specs.Solution.{mem, same}
 use Rattle.meaning.specs.Members.{same-eq, same-refl, mem-head, mem-tail, mem-cases, mem-left, mem-right, mem-split}
-use Rattle.meaning.specs.Members.{mem-nothing, mem-one}
+use Rattle.meaning.specs.Members.{mem-one}
 use Rattle.meaning.specs.Reach.{Instance, fresh}
 use Rattle.meaning.specs.Fresh.{fresh-same}
 use Rattle.meaning.specs.Words.{word}
@@ -64,11 +64,7 @@ mem-snoc l i j = same-truth _ _ (λ h. one (mem-split l (i ∷ []) j h)) (λ h. 
   where
     one : Is (mem j l) ⊎ Is (mem j (i ∷ [])) → Is (mem j (i ∷ l))
     one (inl m) = mem-tail j i l m
-    one (inr m) = three (mem-cases j i [] m)
-      where
-        three : (j ≡ i) ⊎ Is (mem j []) → Is (mem j (i ∷ l))
-        three (inl e) = rw e (mem-head i l)
-        three (inr n) = absurd (mem-nothing j n)
+    one (inr m) = rw (mem-one j i m) (mem-head i l)
 
     two : (j ≡ i) ⊎ Is (mem j l) → Is (mem j (l ++ (i ∷ [])))
     two (inl e) = rw e (mem-right l (i ∷ []) i (mem-head i []))
@@ -76,15 +72,13 @@ mem-snoc l i j = same-truth _ _ (λ h. one (mem-split l (i ∷ []) j h)) (λ h. 
 
 -- there is room for all
 within-all : (room : ℕ) (ws : List ℕ) → length ws ≤ room → found-within room ws ≡ (ws, false)
-unfolding found-within
-within-all room ws h = rw (le-leb _ _ h) refl
+within-all room ws h = rw (take-all room ws h, le-ltb room (length ws) h) refl
 
+-- there is none behind the first
 within-more : (room : ℕ) (ws : List ℕ) (w : ℕ) (us : List ℕ) → length ws ≡ room → found-within room (ws ++ (w ∷ us)) ≡ (ws, true)
-unfolding found-within
 within-more room ws w us h =
-    let all = ws ++ (w ∷ us) in
-    let e : leb (length all) room ≡ false = lt-leb (length all) room (omega (arith, length-append ws (w ∷ us))) in
-    rw (e, take-at ws (w ∷ us) room h) refl
+    let more : room < length (ws ++ (w ∷ us)) = omega (arith, length-append ws (w ∷ us)) in
+    rw (take-at ws (w ∷ us) room h, lt-ltb room _ more) refl
 
 module _ (room : ℕ) (found : List ℕ) (w : ℕ) where
   -- the three ways of one word

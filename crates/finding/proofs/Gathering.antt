@@ -17,7 +17,7 @@ use Rattle.meaning.specs.Simplification.{Simplified, decided, left, join-simpli
 use Rattle.meaning.specs.Reach.{leaves, instances}
 use Rattle.meaning.specs.Words.{word}
 use Rattle.formulas.specs.declared.Kind.{Kind}
-use Rattle.formulas.specs.declared.Kind.the-variants.{NoFormula, Constant, Join, Quantifier, Compare, Instance}
+use Rattle.formulas.specs.declared.Kind.the-variants.{Join, Quantifier, Compare, Instance}
 use Rattle.formulas.specs.declared.Test.{Test}
 use Rattle.formulas.specs.declared.Tuple.{Tuple}
 use Rattle.formulas.specs.Contract.{InstanceTold, FormulaTold}
@@ -35,7 +35,7 @@ use Rattle.finding.specs.FoundWords.{FoundWords, add-one, add}
 use Rattle.finding.proofs.FoundWordsLaws.{add-append}
 use Rattle.finding.specs.Kept.{found-of, found-words, Kept, Adds}
 use Rattle.finding.specs.Absorbed.{absorbs, parted}
-use Rattle.finding.specs.Gathered.{words-left, inside, Free, own, needs-no-value, is-open, is-left}
+use Rattle.finding.specs.Gathered.{words-left, inside, apart, Free, is-open, is-left}
 use Rattle.finding.specs.Gathered.{LeftTold, unasked, asked, Gathers, GathersLeft, GathersOver}
 
 -- ---- the table
@@ -74,20 +74,10 @@ same-connective around all x h f = go (around .within) (around .all) all h f
     go true true false h f = absurd (false≢true h)
     go false other all h f = absurd (false≢true h)
 
--- where the value is not needed, and where something is left, nothing decides the formula's own connective
-own-free : (kind : Kind) (around : Around) (x : Simplified) → needs-no-value kind around ≡ true → Free around x
-    → Free (own kind) x
-own-free NoFormula around x h f z = absurd (false≢true z)
-own-free (Constant b) around x h f z = absurd (false≢true z)
-own-free (Join all) around x h f z = same-connective around all x h f
-own-free (Quantifier all) around x h f z = same-connective around all x h f
-own-free (Compare t) around x h f z = absurd (false≢true h)
-own-free Instance around x h f z = absurd (false≢true z)
-
-left-free : (around : Around) (x : Simplified) → true ≡ is-left x → Free around x
+left-free : (all : Bool) (x : Simplified) → true ≡ is-left x → absorbs all x ≡ false
 unfolding absorbs
-left-free around (decided c) h _ = absurd (true≢false h)
-left-free around (left l) h _ = refl
+left-free all (decided c) h = absurd (true≢false h)
+left-free all (left l) h = refl
 
 none-left : (x : Simplified) → false ≡ is-left x → words-left x ≡ []
 unfolding instances
@@ -113,13 +103,13 @@ told-is-open (decided true) = refl
 told-is-open (decided false) = refl
 told-is-open (left l) = refl
 
-module _ {body : List ℕ} {at : ℕ} {scope : Tuple} {q : ℕ} {kind : Kind} {around : Around} (set : ℕ → Bool) {r : Valued}
+module _ {body : List ℕ} {at : ℕ} {scope : Tuple} {q : ℕ} {all : Bool} {around : Around} (set : ℕ → Bool) {r : Valued}
     (reach : scope .count ≤ 4 + q) (v : ValueReply (value-in [] set) body at scope q r) where
-  pub left-valued : {b : Bool} → r .ok ≡ true → b ≡ is-open (r .value) → LeftTold body at scope q kind around b (r .next)
+  pub left-valued : {b : Bool} → r .ok ≡ true → b ≡ is-open (r .value) → LeftTold body at scope q all around b (r .next)
   left-valued z h = asked (v .on z) (law.formula-map (value-told reach v)
       (λ f x. h ∙ ap is-open (x ∙ open-everywhere f set (items scope)) ∙ told-is-open (simplified f (items scope))))
 
-  pub left-unread : r .ok ≡ false → LeftTold body at scope q kind around false at
+  pub left-unread : r .ok ≡ false → LeftTold body at scope q all around false at
   left-unread z = asked {next = at} (omega arith) (law.formula-lost (value-told reach v) z)
 
 -- ---- what was gathered may be told of an earlier place, and in other words
@@ -144,40 +134,40 @@ module _ {C : Formula → Type 0} {ws : Formula → List ℕ} {room : ℕ} {body
     told = law.formula-map u (λ f h c. rw (h c) refl);
   }
 
-module _ {room : ℕ} {body : List ℕ} {at : ℕ} {scope : Tuple} {q : ℕ} {kind : Kind} {around : Around} where
-  pub gather-closed : {b : Bool} {next : ℕ} {t : List ℕ} {s : ℕ} → s ≤ room + 1 → LeftTold body at scope q kind around b next
-      → b ≡ false → GathersLeft around (items scope) room body (scope .count) q at t t s s next
+module _ {room : ℕ} {body : List ℕ} {at : ℕ} {scope : Tuple} {q : ℕ} {all : Bool} where
+  pub gather-closed : {around : Around} {b : Bool} {m : ℕ} {t : List ℕ} {s : ℕ} → s ≤ room + 1
+      → LeftTold body at scope q all around b m → b ≡ false
+      → GathersLeft around (items scope) room body (scope .count) q at t t s s m
   gather-closed l (unasked h) z = absurd (true≢false z)
   gather-closed l (asked on u) z =
       gather-nothing l on (law.formula-map u (λ f h _. none-left (simplified f (items scope)) (sym z ∙ h)))
 
-  -- a test is never left
-  pub gather-compare : {b : Bool} {m : ℕ} {t : List ℕ} {s : ℕ} {test : Test} → law.Head body at kind → kind ≡ Compare test
-      → s ≤ room + 1 → LeftTold body at scope q kind around b m → b ≡ true
-      → GathersLeft around (items scope) room body (scope .count) q at t t s s (at + 1)
-  unfolding simplified
-  gather-compare head e l (unasked h) z = absurd (false≢true (ap (λ (k : Kind). needs-no-value k around) (sym e) ∙ h))
-  gather-compare head e l (asked on u) z =
-      gather-nothing l (omega arith) (law.formula-compare-never head e u (λ _ _ h. true≢false (sym z ∙ h)))
+  -- a test is never left: it is evaluated to know where it ends
+  pub gather-compare : (around : Around) {kind : Kind} {test : Test} {b : Bool} {m : ℕ} {t : List ℕ} {s : ℕ}
+      → law.Head body at kind → kind ≡ Compare test → s ≤ room + 1 → LeftTold body at scope q all apart b m
+      → GathersLeft around (items scope) room body (scope .count) q at t t s s m
+  unfolding simplified instances
+  gather-compare around head e l (unasked h) = absurd (false≢true h)
+  gather-compare around head e l (asked on u) = gather-nothing l on (law.formula-compare-as head e u (λ _ _ _ _. refl))
 
-  -- what is gathered where nothing decides the formula's own connective is gathered where it is free of that around it
-  pub gather-free : {b : Bool} {m : ℕ} {t e : List ℕ} {s r next : ℕ} → LeftTold body at scope q kind around b m → b ≡ true
-      → GathersLeft (own kind) (items scope) room body (scope .count) q at t e s r next
+  -- what is gathered where nothing decides the formula's connective is gathered where it is free of that around it
+  pub gather-free : {around : Around} {b : Bool} {m : ℕ} {t e : List ℕ} {s r next : ℕ} → LeftTold body at scope q all around b m
+      → b ≡ true → GathersLeft (inside all) (items scope) room body (scope .count) q at t e s r next
       → GathersLeft around (items scope) room body (scope .count) q at t e s r next
-  gather-free (unasked h) z g =
+  gather-free {around} (unasked h) z g =
       gathered g (omega arith) (law.formula-map (g .told)
-      (λ f x free. x (own-free kind around (simplified f (items scope)) h free)))
+      (λ f x free. x (λ _. same-connective around all (simplified f (items scope)) h free)))
   gather-free (asked on u) z g =
       gathered g (omega arith) (law.formula-map (law.formula-both (g .told) u)
-      (λ f x free. x .0 (left-free (own kind) (simplified f (items scope)) (sym z ∙ x .1))))
+      (λ f x _. x .0 (λ _. left-free all (simplified f (items scope)) (sym z ∙ x .1))))
 
 -- ---- the parts of a formula
 module _ {body : List ℕ} {at : ℕ} {kind : Kind} (head : law.Head body at kind) {room : ℕ} (v : List ℕ) {k q : ℕ} where
   pub gather-join : {all : Bool} {t m e : List ℕ} {s u r i next : ℕ} → kind ≡ Join all
       → GathersLeft (inside all) v room body k q (at + 1) t m s u i → GathersLeft (inside all) v room body k q i m e u r next
-      → GathersLeft (own kind) v room body k q at t e s r next
+      → GathersLeft (inside all) v room body k q at t e s r next
   unfolding simplified
-  gather-join {all} {t} {s} h a b = rw h (record {
+  gather-join {all} {t} {s} h a b = record {
     on = omega (arith, a .on, b .on);
     few = b .few;
     kept = kept-then (a .kept) (b .kept);
@@ -187,23 +177,23 @@ module _ {body : List ℕ} {at : ℕ} {kind : Kind} (head : law.Head body at kin
         added-both room (found-words t (found-of room s)) (words-left (simplified f v)) (words-left (simplified g v))
         (ap (map word) (both .both) ∙ map-append word (instances (simplified f v)) (instances (simplified g v)))
         (x (λ _. both .first)) (y (λ _. both .second)));
-  })
+  }
 
   pub gather-quantifier : {all : Bool} {r : ℕ} {t e : List ℕ} {s u next : ℕ} → kind ≡ Quantifier all → q < 4
       → r ≡ getD body (at + 1) 0 → is-range r ≡ true
-      → GathersOver (record { all = all; from = 0; to = r }) v room body (k + 1) (q + 1) (at + 2) t e s u next
-      → GathersLeft (own kind) v room body k q at t e s u next
+      → GathersOver (record { q = q; all = all; from = 0; to = r }) v room body (k + 1) (q + 1) (at + 2) t e s u next
+      → GathersLeft (inside all) v room body k q at t e s u next
   unfolding simplified
   gather-quantifier {all} {r} h d byte range g =
-      rw h (gathered g (omega arith) (law.formula-quantifier head h d byte range (g .told) (λ f x free.
+      gathered g (omega arith) (law.formula-quantifier head h d byte range (g .told) (λ f x free.
       let each = over-left all (λ i. simplified f (v ++ (i ∷ []))) 0 r (free refl) in
-      rw (each .1) (rw sub-zero at (x (λ i _ l. each .0 i (omega arith) (omega arith)))))))
+      rw (each .1) (rw sub-zero at (x (λ i _ l. each .0 i (omega arith) (omega arith))))))
 
-  pub gather-instance : {w : ℕ} {ok : Bool} {t e : List ℕ} {s m next : ℕ} → kind ≡ Instance
+  pub gather-instance : (around : Around) {w : ℕ} {ok : Bool} {t e : List ℕ} {s m next : ℕ} → kind ≡ Instance
       → InstanceTold (λ f. w ≡ instance-word v f) body k (at + 1) ok next → ok ≡ true → Adds room t e s m w
-      → GathersLeft (own kind) v room body k q at t e s m next
+      → GathersLeft around v room body k q at t e s m next
   unfolding simplified instances leaves add
-  gather-instance {ok} h i z a = record {
+  gather-instance around {ok} h i z a = record {
     on = omega (arith, law.instance-on i z);
     few = a .within;
     kept = a .kept;
@@ -223,8 +213,10 @@ module _ (stretch : Stretch) (v : List ℕ) {room : ℕ} {body : List ℕ} {k q 
       (sym (between-one _++_ [] (λ i. words-left (simplified f (v ++ (i ∷ [])))) l h ∙ append-nil _))))
 
   pub gather-halves : {middle : ℕ} {t m e : List ℕ} {s u r i next : ℕ} → stretch .from ≤ middle → middle ≤ stretch .to
-      → GathersOver (record { all = stretch .all; from = stretch .from; to = middle }) v room body k q at t m s u i
-      → GathersOver (record { all = stretch .all; from = middle; to = stretch .to }) v room body k q at m e u r next
+      → GathersOver (record { q = stretch .q; all = stretch .all; from = stretch .from; to = middle }) v room body k q at t m s u
+      i
+      → GathersOver (record { q = stretch .q; all = stretch .all; from = middle; to = stretch .to }) v room body k q at m e u r
+      next
       → GathersOver stretch v room body k q at t e s r next
   gather-halves {t} {s} l h a b = record {
     on = b .on;

@@ -3,7 +3,7 @@
 use Prim.Native.Nat.{ℕ}
 use mathlib.Core.Bool.{Bool, true, false, cond}
 use mathlib.Core.List.{List, [], _∷_, _++_}
-use lib.Dec.{ltb, leb}
+use lib.Dec.{ltb}
 use lib.ListN.{length, take}
 use Rattle.evaluator.specs.Values.{index-of}
 
@@ -25,6 +25,6 @@ unfoldable pub add : ℕ → FoundWords → List ℕ → FoundWords
 add room s [] = s
 add room s (w ∷ ws) = add room (add-one room s w) ws
 
--- all of a list where there is room for it, else its beginning
-unfoldable pub found-within : ℕ → List ℕ → FoundWords
-found-within room ws = cond (leb (length ws) room) (ws, false) (take room ws, true)
+-- as much of a list as there is room for
+abbrev pub found-within : ℕ → List ℕ → FoundWords
+found-within room ws = (take room ws, ltb room (length ws))

@@ -10,9 +10,6 @@ use Rattle.meaning.specs.Formulas.{Formula}
 use Rattle.meaning.specs.Simplification.{Simplified, decided, left, simplified}
 use Rattle.meaning.specs.Reach.{instances}
 use Rattle.meaning.specs.Words.{word}
-use Rattle.formulas.specs.declared.Kind.{Kind}
-use Rattle.formulas.specs.declared.Kind.the-variants.{NoFormula, Constant, Join}
-use Rattle.formulas.specs.declared.Kind.the-variants.{Quantifier, Compare, Instance}
 use Rattle.formulas.specs.declared.Tuple.{Tuple}
 use Rattle.formulas.specs.Contract.{FormulaTold}
 use Rattle.formulas.specs.Tuples.{items}
@@ -39,24 +36,6 @@ apart = record { within = false; all = false }
 abbrev pub Free : Around → Simplified → Type 0
 Free around x = around .within ≡ true → absorbs (around .all) x ≡ false
 
--- the connective that a formula of this kind has itself
-abbrev pub own : Kind → Around
-own NoFormula = apart
-own (Constant b) = apart
-own (Join all) = inside all
-own (Quantifier all) = inside all
-own (Compare t) = apart
-own Instance = apart
-
--- the value of a formula of this kind is not needed to know that nothing decides its own connective
-abbrev pub needs-no-value : Kind → Around → Bool
-needs-no-value NoFormula around = true
-needs-no-value (Constant b) around = true
-needs-no-value (Join all) around = around .within && Bool·beq all (around .all)
-needs-no-value (Quantifier all) around = around .within && Bool·beq all (around .all)
-needs-no-value (Compare t) around = false
-needs-no-value Instance around = true
-
 -- ---- whether something is left
 abbrev pub is-open : Value → Bool
 is-open False = false
@@ -67,14 +46,15 @@ abbrev pub is-left : Simplified → Bool
 is-left (decided c) = false
 is-left (left l) = true
 
--- what is left of the formula at a place is to be gathered with no look at its value, or else it is known
--- whether something is left of it
-pub data LeftTold (body : List ℕ) (at : ℕ) (scope : Tuple) (q : ℕ) (kind : Kind) (around : Around)
+-- the formula at a place stands within the connective that it has itself, or it is known whether something is
+-- left of it
+pub data LeftTold (body : List ℕ) (at : ℕ) (scope : Tuple) (q : ℕ) (all : Bool) (around : Around)
     : Bool → ℕ → Type 0 where
-  unasked : needs-no-value kind around ≡ true → LeftTold body at scope q kind around true at
+  unasked : (around .within && Bool·beq all (around .all)) ≡ true
+      → LeftTold body at scope q all around true at
   asked : {left ok : Bool} {next : ℕ} → at ≤ next
       → FormulaTold (λ f. left ≡ is-left (simplified f (items scope))) body (length body) (scope .count) q at
-      ok next → LeftTold body at scope q kind around left next
+      ok next → LeftTold body at scope q all around left next
 
 -- ---- gathering
 -- at most four of the variables in reach are parameters, and one more is found than there is room, at most

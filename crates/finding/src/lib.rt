@@ -6,7 +6,7 @@ ghost use Prim.Native.Nat.{_+_, _≤_, _<_, min};
 ghost use lib.ListN.{length};
 ghost use Rattle.evaluator.specs.Folds.{Foldable};
 ghost use Rattle.formulas.specs.Tuples.{items};
-ghost use Rattle.finding.specs.Gathered.{needs-no-value, is-open, LeftTold};
+ghost use Rattle.finding.specs.Gathered.{is-open, LeftTold};
 ghost use Rattle.finding.specs.Gathered.{Gatherable, GathersLeft, GathersOver};
 ghost use Rattle.finding.specs.Kept.{Adds};
 ghost use Rattle.finding.specs.Found.{SideGathers, Finds};
@@ -65,38 +65,23 @@ fn is_open(value: Value) -> bool
     }
 }
 
-// Whether what is left of a formula of this kind can be gathered with no look at its value.
-fn needs_no_value(kind: Kind, around: Around) -> bool
-    ensures { λ r. ⌜ r ≡ needs-no-value kind around ⌝ }
-{
-    let within = around.within;
-    let all = around.all;
-    match kind {
-        Kind::NoFormula => true,
-        Kind::Constant(_) => true,
-        Kind::Join(joins) => basics::and(within, joins == all),
-        Kind::Quantifier(joins) => basics::and(within, joins == all),
-        Kind::Compare(_) => false,
-        Kind::Instance => true,
-    }
-}
-
-// Whether something may be left of the formula of this kind at a place, and where it ends where nothing is:
-// its value is not needed, or it is open where nothing is known of any instance. `none` is any set: an empty
-// table asks nothing of it.
+// Whether something may be left of the formula at a place, whose connective is `all`, and where it ends where
+// nothing is. Within the same connective it may, with no look at its value; else that says so, which is open
+// where nothing is known of any instance. `none` is any set: an empty table asks nothing of it. It is lent,
+// since what a frame of the recursion holds is what bounds the stack.
 fn left_at(
     body: &[u8],
     at: usize,
     scope: Tuple,
     q: u8,
-    kind: Kind,
+    all: bool,
     around: Around,
     none: &[u64; 8],
 ) -> LeftAt
     requires { ⌜ scope .count ≤ 4 + q ⌝ }
-    ensures { λ r. ⌜ LeftTold (now (body .entry)) at scope q kind around (r .left) (r .next) ⌝ }
+    ensures { λ r. ⌜ LeftTold (now (body .entry)) at scope q all around (r .left) (r .next) ⌝ }
 {
-    if needs_no_value(kind, around) {
+    if basics::and(around.within, all == around.all) {
         return LeftAt {
             left: true,
             next: at,
@@ -138,22 +123,32 @@ fn gather(
     if body.len() <= at {
         return at;
     }
-    let kind = formulas::kind_of(basics::element(body, at));
-    let o = left_at(body, at, scope, q, kind, around, none);
-    if !o.left {
-        return o.next;
-    }
     let next = at + 1;
+    let kind = formulas::kind_of(basics::element(body, at));
     match kind {
         Kind::NoFormula => at,
         Kind::Constant(_) => next,
-        Kind::Compare(_) => next,
+        Kind::Compare(_) => {
+            let apart = Around {
+                within: false,
+                all: false,
+            };
+            left_at(body, at, scope, q, false, apart, none).next
+        }
         Kind::Join(all) => {
+            let o = left_at(body, at, scope, q, all, around, none);
+            if !o.left {
+                return o.next;
+            }
             let inner = Around { within: true, all };
             let m = gather(body, next, scope, q, inner, table, room, none, found);
             gather(body, m, scope, q, inner, table, room, none, found)
         }
         Kind::Quantifier(all) => {
+            let o = left_at(body, at, scope, q, all, around, none);
+            if !o.left {
+                return o.next;
+            }
             if 4 <= q {
                 return at;
             }
@@ -162,11 +157,12 @@ fn gather(
                 return at;
             }
             let stretch = Stretch {
+                q,
                 all,
                 from: 0,
                 to: r,
             };
-            gather_fold(body, at + 2, scope, q, stretch, table, room, none, found)
+            gather_fold(body, at + 2, scope, stretch, table, room, none, found)
         }
         Kind::Instance => {
             let i = evaluator::word_at(body, next, scope);
@@ -186,17 +182,17 @@ fn gather_fold(
     body: &[u8],
     at: usize,
     scope: Tuple,
-    q: u8,
     stretch: Stretch,
     table: &mut [u32],
     room: usize,
     none: &[u64; 8],
     found: &mut usize,
 ) -> usize
-    requires { ⌜ Gatherable scope q room (now table) (now found) × Foldable scope q stretch ⌝ }
-    ensures { λ r. ⌜ GathersOver stretch (items scope) room (now (body .entry)) (scope .count + 1) (q + 1) at
-        (now (table .entry)) (now (table .exit)) (now (found .entry)) (now (found .exit)) r ⌝ }
+    requires { ⌜ Gatherable scope (stretch .q) room (now table) (now found) × Foldable scope stretch ⌝ }
+    ensures { λ r. ⌜ GathersOver stretch (items scope) room (now (body .entry)) (scope .count + 1)
+        (stretch .q + 1) at (now (table .entry)) (now (table .exit)) (now (found .entry)) (now (found .exit)) r ⌝ }
 {
+    let q = stretch.q;
     let all = stretch.all;
     let from = stretch.from;
     let to = stretch.to;
@@ -208,17 +204,19 @@ fn gather_fold(
     }
     let middle = from + half;
     let first = Stretch {
+        q,
         all,
         from,
         to: middle,
     };
-    gather_fold(body, at, scope, q, first, table, room, none, found);
+    gather_fold(body, at, scope, first, table, room, none, found);
     let second = Stretch {
+        q,
         all,
         from: middle,
         to,
     };
-    gather_fold(body, at, scope, q, second, table, room, none, found)
+    gather_fold(body, at, scope, second, table, room, none, found)
 }
 
 // Adds the instances that are left in the right side of the instance with the word w to the n words found,

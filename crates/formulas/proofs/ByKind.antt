@@ -26,7 +26,7 @@ use Rattle.formulas.specs.Contract.{ToldWithin, within, FormulaTold}
 use Rattle.formulas.proofs.Told.{told-then, told-stop, told-last, told-when, told-unless, told-map, told-both}
 use Rattle.formulas.proofs.Told.{within-then, within-stop, within-last, within-when, within-map, within-lost}
 use Rattle.formulas.proofs.Told.{told-whole, deep}
-use Rattle.formulas.proofs.Decoded.{Every, From, every-when, every-last, told-on, told-past, told-every, told-never}
+use Rattle.formulas.proofs.Decoded.{Every, From, every-when, every-last, told-on, told-past, told-every}
 use Rattle.formulas.proofs.Decoded.{every-term, every-terms, every-formula}
 
 -- ---- terms
@@ -278,15 +278,16 @@ module _ {s : List ℕ} {at : ℕ} {kind : Kind} (h : Head s at kind) where
     formula-compare {test} t two f =
         formula-step (λ n l. rw (shape-compare n s k q at test (kinded t)) (within (told-last _ (two .tells n l) f)))
 
-    -- what is told of no test is told of nothing that was read there
-    pub formula-compare-never : {Q : Formula → Type 0} {test : Test} {ok : Bool} {m : ℕ} → kind ≡ Compare test
-        → FormulaTold Q s (length s) k q at ok m → ((a b : Term) → Q (compared (test-of test) a b) → ⊥)
-        → FormulaTold P s limit k q at false e
-    formula-compare-never {test} t u f =
+    -- a test that was read is a test: what is told of it may be said in other words
+    pub formula-compare-as : {Q : Formula → Type 0} {test : Test} {ok : Bool} → kind ≡ Compare test
+        → FormulaTold Q s (length s) k q at ok e → ((a b : Term) → Q (compared (test-of test) a b) → P (compared (test-of test) a b))
+        → FormulaTold P s limit k q at ok e
+    formula-compare-as {Q} {test} t u f =
         formula-step (λ n l.
         let shape = shape-compare n s k q at test (kinded t) in
-        rw shape (within (told-never (rw shape at (told-whole (omega arith) (u .tells (suc n) (omega arith))))
-        (every-last _ (every-terms s k n 2 (at + 1)) (λ ts e _. f (nth-term ts 0) (nth-term ts 1))))))
+        rw shape (within (told-map (told-every {Q = λ g _. Q g → P g}
+        (rw shape at (told-whole (omega arith) (u .tells (suc n) (omega arith))))
+        (every-last _ (every-terms s k n 2 (at + 1)) (λ ts e _. f (nth-term ts 0) (nth-term ts 1)))) (λ g h. h .1 (h .0)))))
 
     pub formula-instance : {ok : Bool} → kind ≡ Instance → InstanceTold P s k (at + 1) ok e → FormulaTold P s limit k q at ok e
     formula-instance t i = formula-step (λ n l. rw (shape-instance n s k q at (kinded t)) (within (i .tells n l)))

@@ -64,11 +64,6 @@ pub told-every : {A : Type 0} {P : A → Type 0} {Q : A → ℕ → Type 0} {p :
 told-every refused g = refused
 told-every (told h) (each g) = told (h, g)
 
-pub told-never : {A : Type 0} {P Q : A → Type 0} {p : Parsed A} {e m : ℕ} {ok : Bool} → Told Q m p ok → Every (λ a _. Q a → ⊥) p
-    → Told P e p false
-told-never refused g = refused
-told-never (told h) (each g) = absurd (g h)
-
 -- ---- c operands in a row from `at`: there are c, and P holds of each
 pub record Row {A : Type 0} (P : A → Type 0) (d : A) (c at : ℕ) (l : List A) (e : ℕ) : Type 0 where
   pub long : length l ≡ c

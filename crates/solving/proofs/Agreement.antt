@@ -2,11 +2,12 @@
 -- Turn by turn the set is the next approximation of the first equation; as many turns as there are instances reach
 -- its fixed point.
 use Prim.Native.Nat.{ℕ, zero, suc, _≤_, _<_}
+use native.Mathlib.Decide.{decLt}
 use native.Mathlib.Omega.{arith}
 use mathlib.Core.Path.{_≡_, refl, sym, subst, _∙_, ap, fun-ext}
 use mathlib.Core.Bool.{Bool, true, false, cond}
 use mathlib.Core.List.{List, [], _∷_}
-use lib.ListN.{length, getD}
+use lib.ListN.{length, getD, List·getD-eq-default}
 use lib.Dec.{eqb}
 use borrow.Author.Tests.{eqb-true}
 use Rattle.meaning.specs.Logic.{Is, and-true}
@@ -24,18 +25,11 @@ use Rattle.solving.specs.Solved.{filled, always, repeated, first-candida
 abbrev pub Agrees : List Instance → Truths → Assign → Type 0
 Agrees l v θ = (j e : ℕ) (x : Args) → getD l j [] ≡ e ∷ x → v j ≡ θ e x
 
-empty : {A : Type 0} (e : ℕ) (x : Args) → [] ≡ e ∷ x → A
-empty e x q = absurd (subst cons q tt)
-  where
-    cons : List ℕ → Type 0
-    cons [] = Unit {0}
-    cons (_ ∷ _) = ⊥
-
 pub inside : (l : List Instance) (j e : ℕ) (x : Args) → getD l j [] ≡ e ∷ x → j < length l
-inside [] zero e x q = empty e x q
-inside [] (suc j) e x q = empty e x q
-inside (i ∷ l) zero e x q = omega arith
-inside (i ∷ l) (suc j) e x q = omega (arith, inside l j e x q)
+inside l j e x q = elim (decLt j (length l)) [
+  | yes h ↦ h
+  | no h ↦ let past = List·getD-eq-default l [] {n = j} (omega arith) in let z : _≡_ {A = ℕ} 0 1 = cc in absurd (omega arith)
+]
 
 pub mem-at : (l : List Instance) (j : ℕ) → j < length l → Is (mem (getD l j []) l)
 mem-at [] j h = absurd (omega arith)

@@ -138,10 +138,8 @@ module _ (t : ℕ) where
   both-halves c =
       let first = c .before .before .before .before .before .before in
       let s = first .before .before .before .before in
-      let all = s .args .stretch .all in
-      let read = not-false (first .fold .result .ok) (c .before .before .before .before .if2 .left) in
-      law.formula-map (law.formula-both (rw read at (first .fold .ensures)) (c .before .fold2 .ensures))
-      (λ f x. c .joined .ensures ∙ rw (x .0, x .1) (halves all (at-value s f) (omega arith) (omega arith)))
+      law.formula-map (law.formula-both (c .before .fold2 .ensures) (first .fold .ensures))
+      (λ f x. c .joined .ensures ∙ rw (x .1, x .0) (halves (s .args .stretch .all) (at-value s f) (omega arith) (omega arith)))
 
 pub +fold+value-in-spec : {M : Type 1} → cycle.statement M
 +fold+value-in-spec =

@@ -1,5 +1,5 @@
 -- The proof of the cycle of calls {gather, gather_fold}, over its frame (`Proof/Frame.antt`).
--- `gather` reads a code's kind and whether something is left: `head`; each arm answers by a law. `gather_fold` goes by halves.
+-- `gather` reads a code's kind: `head`, and each arm answers by the kind's law. `gather_fold` takes a stretch by halves.
 mod Frame
 use Frame.*
 use Prim.Native.Nat.{ℕ, _+_}
@@ -23,18 +23,15 @@ use Rattle.finding.proofs.+gather+gather_fold.Lts-gather_fold as fold
 
 -- ---- `gather`
 module _ (t : ℕ) where
-  -- where something may be left
-  module _ (c : gather.Else2 (gather-calls t) (gather-at t) gather-post) where
-    abbrev kinded : gather.After-kind-of (gather-calls t) (gather-at t) gather-post
-    kinded = c .before .before .before
-
+  -- what is read where the code's kind is known
+  module _ (c : gather.After-kind-of (gather-calls t) (gather-at t) gather-post) where
     abbrev start : gather.Start (gather-calls t) (gather-at t) gather-post
-    start = kinded .before .before .before .before .before
+    start = c .before .before .before .before .before
 
-    head : law.Head (start .args .body .now) (start .args .at) (kinded .kind-of .result)
+    head : law.Head (start .args .body .now) (start .args .at) (c .kind-of .result)
     head = record {
-      inside = kinded .before .before .if1 .left;
-      named = kinded .kind-of .ensures ∙ ap kind-of (kinded .before .element .ensures);
+      inside = c .before .before .if1 .left;
+      named = c .kind-of .ensures ∙ ap kind-of (c .before .element .ensures);
     }
 
   past-the-end : gather.Need-returns (gather-calls t) (gather-at t) gather-post
@@ -42,104 +39,55 @@ module _ (t : ℕ) where
       let s = c .before .before .before in
       gather-nothing (s .pre .1 .few) (omega arith) (law.formula-late {e = s .args .at} (c .if1 .taken))
 
-  nothing-left : gather.Need-returns-2 (gather-calls t) (gather-at t) gather-post
-  nothing-left c =
-      let place = c .before .before in
-      gather-closed (place .before .before .before .before .before .before .pre .1 .few) (place .left-at .ensures)
-      (not-true _ (c .if2 .taken))
-
-  no-formula : gather.Need-returns-6 (gather-calls t) (gather-at t) gather-post
+  no-formula : gather.Need-returns-7 (gather-calls t) (gather-at t) gather-post
   no-formula c =
-      let o = c .before .before in
-      gather-nothing (start o .pre .1 .few) (omega arith) (law.formula-none (head o) (c .enum-told .given .1))
+      let k = c .before .before in
+      gather-nothing (start k .pre .1 .few) (omega arith) (law.formula-none (head k) (c .enum-told .given .1))
 
-  a-constant : gather.Need-returns-7 (gather-calls t) (gather-at t) gather-post
+  a-constant : gather.Need-returns-8 (gather-calls t) (gather-at t) gather-post
   unfolding simplified instances
   a-constant c =
-      let o = c .before .before in
-      gather-nothing (start o .pre .1 .few) (omega arith)
-      (law.formula-constant (head o) (c .enum-told2 .given .1) (λ _. refl) refl)
+      let k = c .before .before in
+      gather-nothing (start k .pre .1 .few) (omega arith)
+      (law.formula-constant (head k) (c .enum-told2 .given .1) (λ _. refl) refl)
 
-  a-comparison : gather.Need-returns-8 (gather-calls t) (gather-at t) gather-post
+  a-comparison : gather.Need-returns-9 (gather-calls t) (gather-at t) gather-post
   a-comparison c =
+      let arm = c .before in
+      let k = arm .before .before in
+      gather-compare (start k .args .around) (head k) (arm .enum-told3 .given .1) (start k .pre .1 .few) (c .left-at .ensures)
+
+  join-decided : gather.Need-returns-2 (gather-calls t) (gather-at t) gather-post
+  join-decided c =
       let o = c .before .before in
-      gather-compare (head o) (c .enum-told3 .given .1) (start o .pre .1 .few) (o .before .before .left-at .ensures)
-      (not-false _ (o .if2 .left))
-
-  a-join : gather.Need-returns-9 (gather-calls t) (gather-at t) gather-post
-  a-join c =
-      let first = c .before .before .before .before .before .before .before in
-      let arm = first .before .before .before .before in
-      let o = arm .before .before in
-      gather-free (o .before .before .left-at .ensures) (not-false _ (o .if2 .left))
-      (gather-join (head o) _ (arm .kind .given .1) (first .gather .ensures) (c .before .before .gather2 .ensures))
-
-  a-fifth : gather.Need-returns-3 (gather-calls t) (gather-at t) gather-post
-  a-fifth c =
-      let arm = c .before .before in
-      let o = arm .before .before in
-      gather-nothing (start o .pre .1 .few) (omega arith) (law.formula-fifth (head o) (arm .kind2 .given .1) (c .if3 .taken))
-
-  no-range : gather.Need-returns-4 (gather-calls t) (gather-at t) gather-post
-  no-range c =
-      let byte = c .before .before in
-      let arm = byte .before .before .before in
-      let o = arm .before .before in
-      gather-nothing (start o .pre .1 .few) (omega arith)
-      (law.formula-quantifier-no (head o) (arm .kind2 .given .1) (byte .before .if3 .left) (byte .element2 .ensures)
-      (sym (c .before .is-range .ensures) ∙ not-true _ (c .if4 .taken)))
-
-  a-quantifier : gather.Need-returns-10 (gather-calls t) (gather-at t) gather-post
-  a-quantifier c =
-      let over = c .before .before in
-      let test = over .before .before .before in
-      let byte = test .before .before in
-      let arm = byte .before .before .before in
-      let o = arm .before .before in
-      gather-free (o .before .before .left-at .ensures) (not-false _ (o .if2 .left))
-      (gather-quantifier (head o) _ (arm .kind2 .given .1) (byte .before .if3 .left) (byte .element2 .ensures)
-      (sym (test .before .is-range .ensures) ∙ not-false _ (test .if4 .left)) (over .gather-fold .ensures))
-
-  no-instance : gather.Need-returns-5 (gather-calls t) (gather-at t) gather-post
-  no-instance c =
-      let arm = c .before .before .before in
-      let o = arm .before .before in
-      gather-nothing (start o .pre .1 .few) (omega arith) (law.formula-lost
-      (law.formula-instance (head o) (arm .enum-told4 .given .1) (word-told (omega arith) (c .before .before .word-at .ensures)))
-      (not-true _ (c .if5 .taken)))
-
-  an-instance : gather.Need-returns-11 (gather-calls t) (gather-at t) gather-post
-  an-instance c =
-      let found = c .before .before .before .before .before in
-      let arm = found .before .before .before in
-      let o = arm .before .before in
-      gather-free (o .before .before .left-at .ensures) (not-false _ (o .if2 .left))
-      (gather-instance (head o) _ (arm .enum-told4 .given .1) (word-told (omega arith) (found .before .before .word-at .ensures))
-      (not-false _ (found .if5 .left)) (c .before .before .add-word .ensures))
-
-  some-values : gather.Need-gather-fold-requires (gather-calls t) (gather-at t) gather-post
-  some-values c κs =
-      let test = c .before .before in
-      let byte = test .before .before in
-      let o = byte .before .before .before .before .before in
-      let p = start o .pre in
-      let range = sym (test .before .is-range .ensures) ∙ not-false _ (test .if4 .left) in (
-        omega (arith, byte .element2 .ok, head o .inside, p .0),
-        (p .1, record { some = range-positive _ range; few = byte .before .if3 .left; reach = p .1 .reach }),
-      )
+      let k = o .before .before .before .before in
+      gather-closed (start k .pre .1 .few) (o .left-at2 .ensures) (not-true _ (c .if2 .taken))
 
   first-operand : gather.Need-gather-requires (gather-calls t) (gather-at t) gather-post
-  first-operand c κs = (omega arith, start (c .before .before .before .before .before) .pre .1)
+  first-operand c κs =
+      let arm = c .before .before .before .before .before .before in
+      (omega arith, start (arm .before .before) .pre .1)
 
   second-operand : gather.Need-gather-requires-2 (gather-calls t) (gather-at t) gather-post
   second-operand c κs =
       let first = c .before .before .before .before in
       let g = first .gather .ensures in
-      let o = first .before .before .before .before .before .before in
-      let p = start o .pre in (
-        omega (arith, g .on, head o .inside, p .0),
+      let arm = first .before .before .before .before .before .before .before in
+      let k = arm .before .before in
+      let p = start k .pre in (
+        omega (arith, g .on, head k .inside, p .0),
         record { reach = p .1 .reach; few = g .few; lent = omega (arith, p .1 .lent, g .kept .size) },
       )
+
+  a-join : gather.Need-returns-10 (gather-calls t) (gather-at t) gather-post
+  a-join c =
+      let first = c .before .before .before .before .before .before .before in
+      let test = first .before .before .before in
+      let o = test .before .before in
+      let arm = o .before .before in
+      gather-free (o .left-at2 .ensures) (not-false _ (test .if2 .left))
+      (gather-join (head (arm .before .before)) _ (arm .kind .given .1) (first .gather .ensures)
+      (c .before .before .gather2 .ensures))
 
   -- the table is as long as before
   after-both : gather.Need-same-length (gather-calls t) (gather-at t) gather-post
@@ -147,10 +95,70 @@ module _ (t : ℕ) where
       let first = c .before .before .before .before .before .before .before in
       c .before .before .gather2 .ensures .kept .size ∙ first .gather .ensures .kept .size
 
+  quantifier-decided : gather.Need-returns-3 (gather-calls t) (gather-at t) gather-post
+  quantifier-decided c =
+      let o = c .before .before in
+      let k = o .before .before .before .before in
+      gather-closed (start k .pre .1 .few) (o .left-at3 .ensures) (not-true _ (c .if3 .taken))
+
+  a-fifth : gather.Need-returns-4 (gather-calls t) (gather-at t) gather-post
+  a-fifth c =
+      let arm = c .before .before .before .before .before in
+      let k = arm .before .before in
+      gather-nothing (start k .pre .1 .few) (omega arith) (law.formula-fifth (head k) (arm .kind2 .given .1) (c .if4 .taken))
+
+  no-range : gather.Need-returns-5 (gather-calls t) (gather-at t) gather-post
+  no-range c =
+      let byte = c .before .before in
+      let arm = byte .before .before .before .before .before .before in
+      let k = arm .before .before in
+      gather-nothing (start k .pre .1 .few) (omega arith)
+      (law.formula-quantifier-no (head k) (arm .kind2 .given .1) (byte .before .if4 .left) (byte .element2 .ensures)
+      (sym (c .before .is-range .ensures) ∙ not-true _ (c .if5 .taken)))
+
+  some-values : gather.Need-gather-fold-requires (gather-calls t) (gather-at t) gather-post
+  some-values c κs =
+      let test = c .before .before in
+      let byte = test .before .before in
+      let k = byte .before .before .before .before .before .before .before .before in
+      let p = start k .pre in
+      let range = sym (test .before .is-range .ensures) ∙ not-false _ (test .if5 .left) in (
+        omega (arith, byte .element2 .ok, head k .inside, p .0),
+        (p .1, record { some = range-positive _ range; few = byte .before .if4 .left; reach = p .1 .reach }),
+      )
+
+  a-quantifier : gather.Need-returns-11 (gather-calls t) (gather-at t) gather-post
+  a-quantifier c =
+      let over = c .before .before in
+      let test = over .before .before .before in
+      let byte = test .before .before in
+      let o = byte .before .before .before .before in
+      let arm = o .before .before in
+      gather-free (o .left-at3 .ensures) (not-false _ (byte .before .before .if3 .left))
+      (gather-quantifier (head (arm .before .before)) _ (arm .kind2 .given .1) (byte .before .if4 .left) (byte .element2 .ensures)
+      (sym (test .before .is-range .ensures) ∙ not-false _ (test .if5 .left)) (over .gather-fold .ensures))
+
+  no-instance : gather.Need-returns-6 (gather-calls t) (gather-at t) gather-post
+  no-instance c =
+      let arm = c .before .before .before in
+      let k = arm .before .before in
+      gather-nothing (start k .pre .1 .few) (omega arith) (law.formula-lost
+      (law.formula-instance (head k) (arm .enum-told4 .given .1) (word-told (omega arith) (c .before .before .word-at .ensures)))
+      (not-true _ (c .if6 .taken)))
+
   word-added : gather.Need-add-word-requires (gather-calls t) (gather-at t) gather-post
   word-added c κs =
       let p = start (c .before .before .before .before .before .before .before) .pre .1 in
       (p .few, p .lent)
+
+  an-instance : gather.Need-returns-12 (gather-calls t) (gather-at t) gather-post
+  an-instance c =
+      let found = c .before .before .before .before .before in
+      let arm = found .before .before .before in
+      let k = arm .before .before in
+      gather-instance (head k) _ (start k .args .around) (arm .enum-told4 .given .1)
+      (word-told (omega arith) (found .before .before .word-at .ensures)) (not-false _ (found .if6 .left))
+      (c .before .before .add-word .ensures)
 
 -- ---- `gather_fold`
 module _ (t : ℕ) where
@@ -210,12 +218,13 @@ pub +gather+gather-fold-spec : {M : Type 1} → cycle.statement M
 +gather+gather-fold-spec =
     cycle.Tie.close μ-gather μ-fold
     (λ t. gather.spec (gather-calls t) (gather-at t) gather-post
-    (past-the-end t) (λ c κs. search needs) (λ c κs. search needs)
-    (λ c κs. c .before .before .before .before .before .pre .1 .reach) (nothing-left t) (λ c. omega arith)
-    (λ c. search needs) (λ c. search needs) (λ c. search needs) (λ c. search needs) (first-operand t) (second-operand t)
-    (λ c. search needs) (a-fifth t) (λ c κs. search needs) (λ c κs. search needs) (no-range t) (λ c. omega arith)
-    (some-values t) (λ c. search needs) (λ c κs. search needs) (no-instance t) (word-added t) (no-formula t) (a-constant t)
-    (a-comparison t) (after-both t) (a-join t) (λ c. c .before .before .gather-fold .ensures .kept .size) (a-quantifier t)
+    (past-the-end t) (λ c. search needs) (λ c κs. search needs) (λ c κs. search needs) (λ c. search needs)
+    (λ c. search needs) (λ c. search needs) (λ c κs. start t (c .before .before) .pre .1 .reach) (λ c. search needs)
+    (λ c κs. start t (c .before .before .before) .pre .1 .reach) (join-decided t) (first-operand t) (second-operand t)
+    (λ c. search needs) (λ c κs. start t (c .before .before .before) .pre .1 .reach) (quantifier-decided t) (a-fifth t)
+    (λ c κs. search needs) (λ c κs. search needs) (no-range t) (λ c. omega arith) (some-values t) (λ c. search needs)
+    (λ c κs. search needs) (no-instance t) (word-added t) (no-formula t) (a-constant t) (a-comparison t) (after-both t)
+    (a-join t) (λ c. c .before .before .gather-fold .ensures .kept .size) (a-quantifier t)
     (λ c. c .before .before .add-word .ensures .kept .size) (an-instance t))
     (λ t. fold.spec (fold-calls t) (fold-at t) fold-post
     (λ c. omega (arith, c .before .before .pre .1 .1 .some)) (λ c κs. search needs) (λ c. omega arith) (one-value t)

@@ -24,7 +24,7 @@ use Rattle.formulas.proofs.push.Reads as push-reads
 
 -- what is left of the body, 512 for each byte, and for `fold` the values left: a byte holds fewer than 511
 abbrev pub μ-fold : Measures 3 of-fold.ps ℕ
-μ-fold κs a = (length (a .0 .now) - a .1 .0) * 512 + (a .1 .1 .1 .1 .0 .to - a .1 .1 .1 .1 .0 .from) + 1
+μ-fold κs a = (length (a .0 .now) - a .1 .0) * 512 + (a .1 .1 .1 .0 .to - a .1 .1 .1 .0 .from) + 1
 
 abbrev pub μ-formula : Measures 3 of-formula.ps ℕ
 μ-formula κs a = (length (a .0 .now) - a .1 .0) * 512

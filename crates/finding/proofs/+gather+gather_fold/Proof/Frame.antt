@@ -24,7 +24,7 @@ abbrev pub μ-gather : Measures 4 of-gather.ps ℕ
 μ-gather κs a = (length (a .0 .now) - a .1 .0) * 512
 
 abbrev pub μ-fold : Measures 4 of-fold.ps ℕ
-μ-fold κs a = (length (a .0 .now) - a .1 .0) * 512 + (a .1 .1 .1 .1 .0 .to - a .1 .1 .1 .1 .0 .from) + 1
+μ-fold κs a = (length (a .0 .now) - a .1 .0) * 512 + (a .1 .1 .1 .0 .to - a .1 .1 .1 .0 .from) + 1
 
 abbrev pub gather-post : Out 4 of-gather.ps of-gather.r
 gather-post = gather-reads.Post
