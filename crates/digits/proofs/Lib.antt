@@ -1,5 +1,5 @@
 pub mod Table
-pub mod Worths
+pub mod WorthTable
 pub mod Pairs
 pub mod Filled
 pub mod Written

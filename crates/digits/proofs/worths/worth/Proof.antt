@@ -1,9 +1,9 @@
 -- `digits::worth` meets its contract.
 -- The table follows its rule at every entry.
-use Rattle.digits.proofs.Worths.{follows}
+use Rattle.digits.proofs.WorthTable.{follows}
 use borrow.Author.Needs.{needs}
-use Rattle.digits.proofs.worth.Statement.{statement}
-use Rattle.digits.proofs.worth.Tie as tie
+use Rattle.digits.proofs.worths.worth.Statement.{statement}
+use Rattle.digits.proofs.worths.worth.Tie as tie
 
 returns : tie.Need-returns
 returns c = follows (c .args .b) (search needs)
