@@ -280,7 +280,8 @@ module _ {s : List ℕ} {at : ℕ} {kind : Kind} (h : Head s at kind) where
 
     -- a test that was read is a test: what is told of it may be said in other words
     pub formula-compare-as : {Q : Formula → Type 0} {test : Test} {ok : Bool} → kind ≡ Compare test
-        → FormulaTold Q s (length s) k q at ok e → ((a b : Term) → Q (compared (test-of test) a b) → P (compared (test-of test) a b))
+        → FormulaTold Q s (length s) k q at ok e
+        → ((a b : Term) → Q (compared (test-of test) a b) → P (compared (test-of test) a b))
         → FormulaTold P s limit k q at ok e
     formula-compare-as {Q} {test} t u f =
         formula-step (λ n l.

@@ -1,23 +1,24 @@
 -- The reader's table is the definition's: what its two columns say of a code is the code's row.
--- One test that antt computes, over all rows; before and past the table stands no row, and the number of no kind.
-use Prim.Native.Nat.{ℕ, zero, suc, _-_, _≤_, _<_}
+-- One test that antt computes, over all rows; the last place has no row, for all other codes.
+use Prim.Native.Nat.{ℕ, zero, suc, _-_, _≤_, _<_, min}
 use native.Mathlib.Omega.{arith}
 use mathlib.Core.Path.{_≡_, refl, sym, ap, _∙_}
 use mathlib.Core.Bool.{Bool, true, false}
-use mathlib.Core.List.{List, [], _∷_}
+use mathlib.Core.List.{List, [], _∷_, _++_}
 use lib.Dec.{leb}
 use lib.ListN.{length, getD, List·getD-eq-default}
-use borrow.Author.Tests.{le-leb, leb-true, leb-false}
+use borrow.Author.Tests.{leb-true, leb-false}
 use Rattle.formulas.specs.declared.Kind.the-variants.{NoFormula}
 use Rattle.formulas.specs.declared.TermKind.the-variants.{NoTerm}
 use Rattle.formulas.specs.Codes.{Row, row, no-row, rows, row-of, kind-of, term-kind-of, operands-of}
-use Rattle.formulas.specs.Contract.{numbered-kinds, kind-numbered, numbered-term-kinds, term-kind-numbered}
+use Rattle.formulas.specs.Contract.{row-number, numbered-kinds, kind-numbered, numbered-term-kinds}
+use Rattle.formulas.specs.Contract.{term-kind-numbered}
 
 abbrev kinds : List ℕ
-kinds = 1 ∷ 2 ∷ 3 ∷ 4 ∷ 5 ∷ 6 ∷ 7 ∷ 8 ∷ 9 ∷ 10 ∷ 11 ∷ 0 ∷ 0 ∷ 0 ∷ 0 ∷ 0 ∷ 12 ∷ 13 ∷ 14 ∷ 15 ∷ []
+kinds = 1 ∷ 2 ∷ 3 ∷ 4 ∷ 5 ∷ 6 ∷ 7 ∷ 8 ∷ 9 ∷ 10 ∷ 11 ∷ 0 ∷ 0 ∷ 0 ∷ 0 ∷ 0 ∷ 12 ∷ 13 ∷ 14 ∷ 15 ∷ 0 ∷ []
 
 abbrev operands : List ℕ
-operands = 0 ∷ 0 ∷ 2 ∷ 2 ∷ 2 ∷ 2 ∷ 2 ∷ 2 ∷ 2 ∷ 2 ∷ 2 ∷ 0 ∷ 0 ∷ 0 ∷ 0 ∷ 0 ∷ 1 ∷ 1 ∷ 3 ∷ 3 ∷ []
+operands = 0 ∷ 0 ∷ 2 ∷ 2 ∷ 2 ∷ 2 ∷ 2 ∷ 2 ∷ 2 ∷ 2 ∷ 2 ∷ 0 ∷ 0 ∷ 0 ∷ 0 ∷ 0 ∷ 1 ∷ 1 ∷ 3 ∷ 3 ∷ 0 ∷ []
 
 -- the row of a kind's number and a number of operands
 abbrev numbered : ℕ → ℕ → Row
@@ -28,7 +29,7 @@ side-by-side [] cs = []
 side-by-side (n ∷ ns) [] = []
 side-by-side (n ∷ ns) (c ∷ cs) = numbered n c ∷ side-by-side ns cs
 
-columns-are-rows : side-by-side kinds operands ≡ rows
+columns-are-rows : side-by-side kinds operands ≡ rows ++ (no-row ∷ [])
 unfolding kind-numbered term-kind-numbered
 columns-are-rows = refl
 
@@ -41,38 +42,33 @@ side-by-side-at (n ∷ ns) [] i h = absurd (omega arith)
 side-by-side-at (n ∷ ns) (c ∷ cs) zero h = refl
 side-by-side-at (n ∷ ns) (c ∷ cs) (suc i) h = side-by-side-at ns cs i (omega arith)
 
+-- the place after the last one serves for all that are past it
+last-for-all : (l : List Row) (i : ℕ) → getD (l ++ (no-row ∷ [])) (min i (length l)) no-row ≡ getD l i no-row
+last-for-all [] i = let z : min i 0 ≡ 0 = omega arith in rw z refl
+last-for-all (r ∷ l) zero = let z : min 0 (length (r ∷ l)) ≡ 0 = omega arith in rw z refl
+last-for-all (r ∷ l) (suc i) =
+    let z : min (suc i) (suc (length l)) ≡ suc (min i (length l)) = omega arith in rw z (last-for-all l i)
+
 module _ (code : ℕ) where
-  in-table : 0x10 ≤ code → row-of code ≡ numbered (getD kinds (code - 0x10) 0) (getD operands (code - 0x10) 0)
+  row-there : (b : Bool) → leb 0x10 code ≡ b → row-of code ≡ getD (rows ++ (no-row ∷ [])) (row-number code) no-row
   unfolding row-of
-  in-table h =
-      rw (le-leb 0x10 code h) (ap (λ (l : List Row). getD l (code - 0x10) no-row) (sym columns-are-rows) ∙
-      side-by-side-at kinds operands (code - 0x10) refl)
+  row-there true h = rw h (sym (last-for-all rows (code - 0x10)))
+  row-there false h = rw h refl
 
-  outside : (b : Bool) → leb 0x10 code ≡ b → (0x10 ≤ code → 0x23 < code) → row-of code ≡ no-row
-  unfolding row-of
-  outside true h f =
-      rw h (List·getD-eq-default rows no-row {n = code - 0x10} (omega (arith, f (leb-true 0x10 code h))))
-  outside false h f = rw h refl
+  in-columns : row-of code ≡ numbered (getD kinds (row-number code) 0) (getD operands (row-number code) 0)
+  in-columns =
+      row-there (leb 0x10 code) refl ∙
+      ap (λ (l : List Row). getD l (row-number code) no-row) (sym columns-are-rows) ∙
+      side-by-side-at kinds operands (row-number code) refl
 
-  -- what the columns say where the table has a row, and what is answered where it has none
-  pub kind-in : 0x10 ≤ code → kind-numbered (getD kinds (code - 0x10) 0) ≡ kind-of code
-  kind-in h = ap (λ (r : Row). r .formula) (sym (in-table h))
+  pub kind-in : kind-numbered (getD kinds (row-number code) 0) ≡ kind-of code
+  kind-in = ap (λ (r : Row). r .formula) (sym in-columns)
 
-  pub term-kind-in : 0x10 ≤ code → term-kind-numbered (getD kinds (code - 0x10) 0) ≡ term-kind-of code
-  term-kind-in h = ap (λ (r : Row). r .term) (sym (in-table h))
+  pub term-kind-in : term-kind-numbered (getD kinds (row-number code) 0) ≡ term-kind-of code
+  term-kind-in = ap (λ (r : Row). r .term) (sym in-columns)
 
-  pub operands-in : 0x10 ≤ code → getD operands (code - 0x10) 0 ≡ operands-of code
-  operands-in h = ap (λ (r : Row). r .operands) (sym (in-table h))
-
-  pub no-kinds : (0x10 ≤ code → 0x23 < code)
-      → (kind-numbered 0 ≡ kind-of code) × (term-kind-numbered 0 ≡ term-kind-of code)
-  unfolding kind-numbered term-kind-numbered
-  no-kinds f =
-      let e = sym (outside (leb 0x10 code) refl f) in
-      (ap (λ (r : Row). r .formula) e, ap (λ (r : Row). r .term) e)
-
-  pub no-operands : (0x10 ≤ code → 0x23 < code) → 0 ≡ operands-of code
-  no-operands f = ap (λ (r : Row). r .operands) (sym (outside (leb 0x10 code) refl f))
+  pub operands-in : getD operands (row-number code) 0 ≡ operands-of code
+  operands-in = ap (λ (r : Row). r .operands) (sym in-columns)
 
 -- the number of no kind
 pub no-formula : (n : ℕ) → (n ≤ 11 → n ≤ 5) → (n ≤ 5 → n ≡ 0) → NoFormula ≡ kind-numbered n

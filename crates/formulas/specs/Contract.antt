@@ -3,7 +3,7 @@
 use Prim.Native.Nat.{ℕ, zero, suc, _+_, _-_, _*_, _≤_, _<_, min}
 use mathlib.Core.Bool.{Bool, true, false, cond}
 use mathlib.Core.List.{List, [], _∷_}
-use lib.Dec.{ltb}
+use lib.Dec.{leb, ltb}
 use lib.ListN.{length, getD}
 use Rattle.meaning.specs.Formulas.{Term, Formula}
 use Rattle.formulas.specs.declared.Equation.{Equation}
@@ -15,6 +15,10 @@ use Rattle.formulas.specs.declared.TermKind.the-variants.{NoTerm, Number
 use Rattle.formulas.specs.declared.Test.the-variants.{Equal, Less, Unequal, NotLess}
 use Rattle.formulas.specs.Decode.{Parsed, none, some, term-at, terms-at, formula-at}
 use Rattle.formulas.specs.Shapes.{instance-at}
+
+-- ---- the reader's two tables have 21 places: one for each code from 10 to 23, and the last for all others
+abbrev pub row-number : ℕ → ℕ
+row-number code = cond (leb 0x10 code) (min (code - 0x10) 20) 20
 
 -- ---- the numbers of the kinds, by which the reader's table has them: formulas from 1 on, terms from 12 on
 abbrev pub numbered-kinds : List Kind

@@ -1,9 +1,9 @@
 -- ONE REPLY: for each public function two results that its contract allows are equal.
 -- Each contract has an equation of the whole result.
-use Prim.Native.Nat.{ℕ, _+_, _<_}
+use Prim.Native.Nat.{ℕ}
 use mathlib.Core.Path.{_≡_}
 use mathlib.Core.Bool.{Bool}
-use mathlib.Core.List.{List, [], _∷_, _++_}
+use mathlib.Core.List.{List}
 use lib.ListN.{getD}
 use Rattle.meaning.specs.OneReply.{one-reply}
 use Rattle.meaning.specs.Ranges.{is-range}
@@ -12,7 +12,7 @@ use Rattle.formulas.specs.declared.Kind.{Kind}
 use Rattle.formulas.specs.declared.TermKind.{TermKind}
 use Rattle.formulas.specs.declared.Tuple.{Tuple}
 use Rattle.formulas.specs.Codes.{kind-of, term-kind-of, operands-of}
-use Rattle.formulas.specs.Tuples.{items, pushed}
+use Rattle.formulas.specs.Tuples.{items, Pushes}
 use Rattle.formulas.specs.Bodies.{ranges-of, signatures-of, is-body, is-fitting}
 
 pub one-kind-of : (code : ℕ) {r s : Kind} → r ≡ kind-of code → s ≡ kind-of code → r ≡ s
@@ -23,12 +23,6 @@ one-term-kind-of code = one-reply
 
 pub one-operands-of : (code : ℕ) {r s : ℕ} → r ≡ operands-of code → s ≡ operands-of code → r ≡ s
 one-operands-of code = one-reply
-
--- what `push` promises of its result; the second part is a consequence of the first, for its callers
-abbrev pub Pushes : Tuple → ℕ → Tuple → Type 0
-Pushes tuple value r =
-    (r ≡ pushed tuple value)
-    × (tuple .count < 8 → (r .count ≡ tuple .count + 1) × (items r ≡ items tuple ++ (value ∷ [])))
 
 pub one-push : (tuple : Tuple) (value : ℕ) {r s : Tuple} → Pushes tuple value r → Pushes tuple value s → r ≡ s
 one-push tuple value p q = one-reply (p .0) (q .0)

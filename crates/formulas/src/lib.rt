@@ -1,17 +1,27 @@
 // The reader of formulas: whether the bytes of a body are one formula, and whether the instances in it fit
 // the equations.
+mod codes;
+mod parameters;
+mod terms;
+mod tuples;
+
 ghost use mathlib.Core.Bool.{true, false, _&&_};
 ghost use mathlib.Core.Path.{_≡_};
-ghost use mathlib.Core.List.{[], _∷_, _++_};
-ghost use Prim.Native.Nat.{_+_, _≤_, _<_};
-ghost use lib.ListN.{length, getD};
-ghost use Rattle.meaning.specs.Ranges.{is-range, term-range, arguments-fit, fits};
-ghost use Rattle.formulas.specs.Codes.{kind-of, term-kind-of, operands-of};
-ghost use Rattle.formulas.specs.Tuples.{items, pushed};
+ghost use Prim.Native.Nat.{_+_, _≤_};
+ghost use lib.ListN.{length};
+ghost use Rattle.meaning.specs.Ranges.{is-range, arguments-fit, fits};
+ghost use Rattle.formulas.specs.Tuples.{items};
 ghost use Rattle.formulas.specs.Bodies.{ranges-of, signatures-of, body-at, is-body, is-fitting};
-ghost use Rattle.formulas.specs.Contract.{kind-numbered, term-kind-numbered};
-ghost use Rattle.formulas.specs.Contract.{part, signature-byte, signatures-in};
-ghost use Rattle.formulas.specs.Contract.{Told, TermTold, TermsTold, InstanceTold, FormulaTold};
+ghost use Rattle.formulas.specs.Contract.{part, signatures-in};
+ghost use Rattle.formulas.specs.Contract.{Told, TermsTold, InstanceTold, FormulaTold};
+pub use codes::kind_of;
+pub use codes::operands_of;
+pub use codes::term_kind_of;
+use parameters::parameters_of;
+use parameters::signatures_of;
+use terms::read_term;
+pub use tuples::item;
+pub use tuples::push;
 
 // An equation's record. Absent ranges are 1; `place` is that of the body's first digit in the text, `length`
 // the body's in bytes.
@@ -48,45 +58,11 @@ pub enum TermKind {
     Calculation(bool),
 }
 
-// Of each code from 10 to 23 the number of its kind; 0 for what begins neither a formula nor a term.
-const KINDS: [u8; 20] = [
-    1,
-    2,
-    3,
-    4,
-    5,
-    6,
-    7,
-    8,
-    9,
-    10,
-    11,
-    0,
-    0,
-    0,
-    0,
-    0,
-    12,
-    13,
-    14,
-    15,
-];
-
-// Of each code from 10 to 23 how many operands come after it.
-const OPERANDS: [u8; 20] = [0, 0, 2, 2, 2, 2, 2, 2, 2, 2, 2, 0, 0, 0, 0, 0, 1, 1, 3, 3];
-
 // At most eight bytes, the first `count` of `values`: values or ranges of the variables in reach, outermost
 // first, or arguments.
 pub struct Tuple {
     pub values: [u8; 8],
     pub count: usize,
-}
-
-// Whether a term was read, its range, and where it ends.
-struct TermSpan {
-    ok: bool,
-    range: u8,
-    next: usize,
 }
 
 // Whether a formula was read, or some arguments; whether the instances in it fit, or the arguments; where it
@@ -97,101 +73,10 @@ struct Span {
     next: usize,
 }
 
-// The number of a code's kind, to which `kind_of` and `term_kind_of` give a name; 0 outside 10 to 23.
-fn number_of(code: u8) -> u8
-    ensures { λ r. ⌜ (kind-numbered r ≡ kind-of code) × (term-kind-numbered r ≡ term-kind-of code) ⌝ }
-{
-    if code < 0x10 {
-        return 0;
-    }
-    if 0x23 < code {
-        return 0;
-    }
-    let i = basics::wide(code - 0x10);
-    KINDS[i]
-}
-
-pub fn kind_of(code: u8) -> Kind
-    ensures { λ r. ⌜ r ≡ kind-of code ⌝ }
-{
-    let n = number_of(code);
-    match n {
-        1 => Kind::Constant(false),
-        2 => Kind::Constant(true),
-        3 => Kind::Join(true),
-        4 => Kind::Join(false),
-        5 => Kind::Quantifier(true),
-        6 => Kind::Quantifier(false),
-        7 => Kind::Compare(Test::Equal),
-        8 => Kind::Compare(Test::Less),
-        9 => Kind::Compare(Test::Unequal),
-        10 => Kind::Compare(Test::NotLess),
-        11 => Kind::Instance,
-        _ => Kind::NoFormula,
-    }
-}
-
-pub fn term_kind_of(code: u8) -> TermKind
-    ensures { λ r. ⌜ r ≡ term-kind-of code ⌝ }
-{
-    let n = number_of(code);
-    match n {
-        12 => TermKind::Number,
-        13 => TermKind::Variable,
-        14 => TermKind::Calculation(true),
-        15 => TermKind::Calculation(false),
-        _ => TermKind::NoTerm,
-    }
-}
-
-pub fn operands_of(code: u8) -> u8
-    ensures { λ r. ⌜ r ≡ operands-of code ⌝ }
-{
-    if code < 0x10 {
-        return 0;
-    }
-    if 0x23 < code {
-        return 0;
-    }
-    let i = basics::wide(code - 0x10);
-    OPERANDS[i]
-}
-
-// One more behind those that are there.
-pub fn push(tuple: Tuple, value: u8) -> Tuple
-    ensures { λ r. ⌜ (r ≡ pushed tuple value) ×
-        (tuple .count < 8 → (r .count ≡ tuple .count + 1) × (items r ≡ items tuple ++ (value ∷ []))) ⌝ }
-{
-    let mut s = tuple;
-    let n = s.count;
-    if n < 8 {
-        s.values[n] = value;
-        s.count = n + 1;
-    }
-    s
-}
-
-// Number i of them; 0 where there are not so many.
-pub fn item(tuple: Tuple, i: u8) -> u8
-    ensures { λ r. ⌜ r ≡ getD (items tuple) i 0 ⌝ }
-{
-    let j = i as usize;
-    if tuple.count <= j {
-        return 0;
-    }
-    if j < 8 { tuple.values[j] } else { 0 }
-}
-
 pub fn is_range(r: u8) -> bool
     ensures { λ b. ⌜ b ≡ is-range r ⌝ }
 {
     basics::and(1 <= r, r <= 16)
-}
-
-fn term_result(ok: bool, range: u8, next: usize) -> TermSpan
-    ensures { λ r. ⌜ r ≡ record { ok = ok; range = range; next = next } ⌝ }
-{
-    TermSpan { ok, range, next }
 }
 
 fn result(ok: bool, fits: bool, next: usize) -> Span
@@ -200,46 +85,19 @@ fn result(ok: bool, fits: bool, next: usize) -> Span
     Span { ok, fits, next }
 }
 
-// The term at `at` of a body.
-fn read_term(body: &[u8], at: usize, scope: Tuple) -> TermSpan
+// The two terms of a comparison.
+fn read_comparison(body: &[u8], at: usize, scope: Tuple) -> Span
     requires { ⌜ length (now body) ≤ 256 ⌝ }
-    ensures { λ r. ⌜ TermTold (λ t. r .range ≡ term-range t (items scope)) (now (body .entry)) (scope .count)
-        at (r .ok) (r .next) ⌝ }
+    ensures { λ r. ⌜ TermsTold (λ ts. r .fits ≡ true) 2 (now (body .entry)) (scope .count) at (r .ok)
+        (r .next) ⌝ }
 {
-    if body.len() <= at {
-        return term_result(false, 0, at);
+    let a = read_term(body, at, scope);
+    let m = a.next;
+    if !a.ok {
+        return result(false, false, m);
     }
-    let code = basics::element(body, at);
-    let x = basics::element(body, at + 1);
-    let next = at + (1 + basics::wide(operands_of(code)));
-    let kind = term_kind_of(code);
-    match kind {
-        TermKind::NoTerm => term_result(false, 0, at),
-        TermKind::Number => {
-            if 15 < x {
-                return term_result(false, 0, at);
-            }
-            term_result(true, x + 1, next)
-        }
-        TermKind::Variable => {
-            if scope.count <= basics::wide(x) {
-                return term_result(false, 0, at);
-            }
-            term_result(true, item(scope, x), next)
-        }
-        TermKind::Calculation(_) => {
-            if !is_range(x) {
-                return term_result(false, 0, at);
-            }
-            let a = read_term(body, at + 2, scope);
-            let m = a.next;
-            if !a.ok {
-                return term_result(false, 0, m);
-            }
-            let b = read_term(body, m, scope);
-            term_result(b.ok, x, b.next)
-        }
-    }
+    let b = read_term(body, m, scope);
+    result(b.ok, true, b.next)
 }
 
 // c terms in a row, as arguments for the parameters whose ranges stand from `j` on;
@@ -343,53 +201,9 @@ fn read_formula(
             }
             read_formula(body, at + 2, limit, push(scope, r), q + 1, signatures)
         }
-        Kind::Compare(_) => {
-            let mut a = read_term(body, at + 1, scope);
-            let m = a.next;
-            if !a.ok {
-                return result(false, false, m);
-            }
-            a = read_term(body, m, scope);
-            result(a.ok, true, a.next)
-        }
+        Kind::Compare(_) => read_comparison(body, at + 1, scope),
         Kind::Instance => read_instance(body, at + 1, next, scope, signatures),
     }
-}
-
-// The ranges of an equation's parameters.
-fn parameters_of(e: Equation) -> Tuple
-    ensures { λ r. ⌜ (items r ≡ ranges-of e) × ((r .count ≡ length (ranges-of e)) × (r .count ≤ 4)) ⌝ }
-{
-    let r = e.ranges;
-    let values = [r[0], r[1], r[2], r[3], 0, 0, 0, 0];
-    let count = basics::smaller(basics::wide(e.k), 4);
-    Tuple { values, count }
-}
-
-// Of an equation's five bytes number i: its four ranges, then how many of them are parameters'.
-fn signature_byte(e: Equation, i: usize) -> u8
-    ensures { λ r. ⌜ (r ≡ signature-byte e i) × (length (e .ranges) ≡ 4) ⌝ }
-{
-    let ranges = e.ranges;
-    if i < 4 {
-        ranges[i]
-    } else {
-        basics::smaller(basics::wide(e.k), 4) as u8
-    }
-}
-
-// Five bytes for each equation; in the last place how many equations may be named, the first `count`.
-fn signatures_of(equations: [Equation; 8], count: usize) -> [u8; 41]
-    ensures { λ r. ⌜ signatures-in r ≡ signatures-of equations count ⌝ }
-{
-    let mut table = [0u8; 41];
-    table[40] = basics::smaller(count, 8) as u8;
-    let mut j: usize = 0;
-    while j < 40 {
-        table[j] = signature_byte(equations[j / 5], j % 5);
-        j += 1;
-    }
-    table
 }
 
 // What stands in a body of e.

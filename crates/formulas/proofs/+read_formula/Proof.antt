@@ -44,11 +44,11 @@ module _ (t : ℕ) where
   at-the-limit : formula.Need-returns (formula-calls t) (formula-at t) formula-post
   at-the-limit c = rw (c .result .ensures) (law.formula-late (c .before .if1 .taken))
 
-  no-formula : formula.Need-returns-6 (formula-calls t) (formula-at t) formula-post
+  no-formula : formula.Need-returns-5 (formula-calls t) (formula-at t) formula-post
   no-formula c =
       rw (c .result2 .ensures) (law.formula-none (head (c .before .before .before)) (c .before .enum-told .given .1))
 
-  a-constant : formula.Need-returns-7 (formula-calls t) (formula-at t) formula-post
+  a-constant : formula.Need-returns-6 (formula-calls t) (formula-at t) formula-post
   unfolding fits
   a-constant c =
       let h = head (c .before .before .before) in
@@ -63,7 +63,7 @@ module _ (t : ℕ) where
       (law.formula-join-stop (head (first .before .before .before)) (first .before .enum-told3 .given .1)
       (first .read-formula .ensures) (omega arith) (not-true _ (c .before .if2 .taken)))
 
-  a-join : formula.Need-returns-8 (formula-calls t) (formula-at t) formula-post
+  a-join : formula.Need-returns-7 (formula-calls t) (formula-at t) formula-post
   unfolding fits
   a-join c =
       let second = c .before .before in
@@ -94,7 +94,7 @@ module _ (t : ℕ) where
       (items (c .push .result) ≡ items scope ++ (c .before .before .before .element2 .result ∷ []))
   pushed c = c .push .ensures .1 (omega arith)
 
-  a-quantifier : formula.Need-returns-9 (formula-calls t) (formula-at t) formula-post
+  a-quantifier : formula.Need-returns-8 (formula-calls t) (formula-at t) formula-post
   unfolding fits
   a-quantifier c =
       let test = c .before .before in
@@ -105,24 +105,13 @@ module _ (t : ℕ) where
       (byte .element2 .ensures) (sym (test .before .is-range .ensures) ∙ not-false _ (test .if4 .left))
       (rw (p .1, p .0) at (c .read-formula3 .ensures)) (λ f x. x)
 
-  compare-stopped : formula.Need-returns-5 (formula-calls t) (formula-at t) formula-post
-  compare-stopped c =
-      let first = c .before .before .before in
-      rw (c .result8 .ensures)
-      (law.formula-compare (head (first .before .before .before)) (first .before .enum-told5 .given .1)
-      (law.terms-stop (omega arith) (first .read-term .ensures) (not-true _ (c .before .if5 .taken))) (λ _. absurd))
-
-  a-comparison : formula.Need-returns-10 (formula-calls t) (formula-at t) formula-post
+  a-comparison : formula.Need-returns-9 (formula-calls t) (formula-at t) formula-post
   unfolding fits
   a-comparison c =
-      let second = c .before in
-      let first = second .before .before .before in
-      rw (c .result9 .ensures)
-      (law.formula-compare (head (first .before .before .before)) (first .before .enum-told5 .given .1)
-      (law.two-terms (first .read-term .ensures) (not-false _ (second .before .if5 .left)) (second .read-term2 .ensures))
-      (λ _ _. refl))
+      law.formula-compare (head (c .before .before .before)) (c .before .enum-told5 .given .1) (c .read-comparison .ensures)
+      (λ _ x. x)
 
-  an-instance : formula.Need-returns-11 (formula-calls t) (formula-at t) formula-post
+  an-instance : formula.Need-returns-10 (formula-calls t) (formula-at t) formula-post
   an-instance c =
       law.formula-instance (head (c .before .before .before)) (c .before .enum-told6 .given .1) (c .read-instance .ensures)
 
@@ -146,6 +135,5 @@ pub +read-formula-spec : {M : Type 1} → cycle.statement M
     (λ c. search needs) (λ c κs. search needs) (a-fifth t) (λ c. search needs) (λ c κs. search needs)
     (λ c κs. search needs) (λ c κs. search needs) (no-range t) (λ c. search needs) (λ c κs. search needs)
     (λ c. search needs) (λ c κs. omega (arith, pushed t c .0)) (λ c. search needs) (λ c. search needs)
-    (λ c κs. search needs) (λ c κs. search needs) (compare-stopped t) (λ c κs. search needs) (λ c κs. search needs)
-    (λ c. search needs) (λ c. search needs) (λ c κs. omega (arith, first-argument t c))
+    (λ c κs. search needs) (λ c. search needs) (λ c. search needs) (λ c κs. omega (arith, first-argument t c))
     (no-formula t) (a-constant t) (a-join t) (a-quantifier t) (a-comparison t) (an-instance t))

@@ -9,7 +9,7 @@ use Rattle.formulas.proofs.read_arguments.Kinds as of-arguments
 use Rattle.formulas.proofs.read_arguments.Reads as read-arguments
 use Rattle.basics.proofs.and.Reads as and-reads
 use Rattle.basics.proofs.element.Reads as element-reads
-use Rattle.formulas.proofs.read_term.Reads as read-term-reads
+use Rattle.formulas.proofs.terms.read_term.Reads as read-term-reads
 use Rattle.formulas.proofs.result.Reads as result-reads
 
 -- how many arguments are left

@@ -11,11 +11,11 @@ use Rattle.basics.proofs.and.Reads as and-reads
 use Rattle.basics.proofs.element.Reads as element-reads
 use Rattle.basics.proofs.wide.Reads as wide-reads
 use Rattle.formulas.proofs.is_range.Reads as is-range-reads
-use Rattle.formulas.proofs.kind_of.Reads as kind-of-reads
-use Rattle.formulas.proofs.operands_of.Reads as operands-of-reads
-use Rattle.formulas.proofs.push.Reads as push-reads
+use Rattle.formulas.proofs.codes.kind_of.Reads as kind-of-reads
+use Rattle.formulas.proofs.codes.operands_of.Reads as operands-of-reads
+use Rattle.formulas.proofs.tuples.push.Reads as push-reads
+use Rattle.formulas.proofs.read_comparison.Reads as read-comparison-reads
 use Rattle.formulas.proofs.read_instance.Reads as read-instance-reads
-use Rattle.formulas.proofs.read_term.Reads as read-term-reads
 use Rattle.formulas.proofs.result.Reads as result-reads
 
 -- half of what is left up to the limit: the calls go no deeper
@@ -52,8 +52,8 @@ module _ (t : ℕ) where
     is-range-reads.Learnt,
     push-reads.Asked,
     push-reads.Learnt,
-    read-term-reads.Asked,
-    read-term-reads.Learnt,
+    read-comparison-reads.Asked,
+    read-comparison-reads.Learnt,
     read-instance-reads.Asked,
     read-instance-reads.Learnt,
   )

@@ -5,8 +5,8 @@ use Rattle.formulas.specs.Contract.{kind-numbered}
 use Rattle.formulas.proofs.Columns.{no-formula}
 use borrow.Author.Needs.{needs}
 use native.Mathlib.Omega.{arith}
-use Rattle.formulas.proofs.kind_of.Statement.{statement}
-use Rattle.formulas.proofs.kind_of.Tie as tie
+use Rattle.formulas.proofs.codes.kind_of.Statement.{statement}
+use Rattle.formulas.proofs.codes.kind_of.Tie as tie
 
 none : tie.Need-returns-12
 none c =

@@ -5,8 +5,8 @@ use Rattle.formulas.specs.Contract.{term-kind-numbered}
 use Rattle.formulas.proofs.Columns.{no-term}
 use borrow.Author.Needs.{needs}
 use native.Mathlib.Omega.{arith}
-use Rattle.formulas.proofs.term_kind_of.Statement.{statement}
-use Rattle.formulas.proofs.term_kind_of.Tie as tie
+use Rattle.formulas.proofs.codes.term_kind_of.Statement.{statement}
+use Rattle.formulas.proofs.codes.term_kind_of.Tie as tie
 
 none : tie.Need-returns-5
 none c = no-term (c .before .number-of .result) (λ h. omega (arith, c .match .rest)) ∙ c .before .number-of .ensures .1

@@ -6,8 +6,8 @@ use mathlib.Core.List.{_∷_, []}
 use lib.ListN.{length}
 use Rattle.formulas.proofs.Bodies.{signature}
 use borrow.Author.Needs.{needs}
-use Rattle.formulas.proofs.parameters_of.Statement.{statement}
-use Rattle.formulas.proofs.parameters_of.Tie as tie
+use Rattle.formulas.proofs.parameters.parameters_of.Statement.{statement}
+use Rattle.formulas.proofs.parameters.parameters_of.Tie as tie
 
 returns : tie.Need-returns
 returns c =

@@ -4,8 +4,8 @@ use mathlib.Core.Path.{refl, ap, _∙_}
 use Prim.Native.Nat.{ℕ, min}
 use borrow.Author.Tests.{lt-ltb, le-ltb}
 use borrow.Author.Needs.{needs}
-use Rattle.formulas.proofs.signature_byte.Statement.{statement}
-use Rattle.formulas.proofs.signature_byte.Tie as tie
+use Rattle.formulas.proofs.parameters.signature_byte.Statement.{statement}
+use Rattle.formulas.proofs.parameters.signature_byte.Tie as tie
 
 a-range : tie.Need-returns
 a-range c = (rw (lt-ltb _ 4 (c .if1 .taken)) refl, search needs)

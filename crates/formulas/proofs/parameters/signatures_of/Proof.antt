@@ -6,8 +6,8 @@ use native.Mathlib.Omega.{arith}
 use lib.ListN.{length}
 use Rattle.formulas.proofs.Signatures.{Signing, signing-start, signing-more, signed}
 use borrow.Author.Needs.{needs}
-use Rattle.formulas.proofs.signatures_of.Statement.{statement}
-use Rattle.formulas.proofs.signatures_of.Tie as tie
+use Rattle.formulas.proofs.parameters.signatures_of.Statement.{statement}
+use Rattle.formulas.proofs.parameters.signatures_of.Tie as tie
 
 abbrev Inv-loop : tie.InvT-loop
 Inv-loop count equations table₀ j₀ table j = Signing equations count table j

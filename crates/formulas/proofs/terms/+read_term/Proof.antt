@@ -13,8 +13,8 @@ use Rattle.meaning.specs.Ranges.{term-range}
 use Rattle.formulas.specs.Codes.{term-kind-of, operands-of}
 use Rattle.formulas.specs.Shapes.{term-operands}
 use Rattle.formulas.proofs.ByKind as law
-use Rattle.formulas.proofs.+read_term as cycle
-use Rattle.formulas.proofs.+read_term.Lts-read_term as term
+use Rattle.formulas.proofs.terms.+read_term as cycle
+use Rattle.formulas.proofs.terms.+read_term.Lts-read_term as term
 
 module _ (t : ℕ) where
   -- what is read where the code's kind is known

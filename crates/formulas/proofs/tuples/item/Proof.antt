@@ -5,8 +5,8 @@ use native.Mathlib.Omega.{arith}
 use mathlib.Core.Path.{_≡_, sym, _∙_}
 use lib.ListN.{length, take, length-take, List·getD-eq-default}
 use lib.Seq.{getD-take}
-use Rattle.formulas.proofs.item.Statement.{statement}
-use Rattle.formulas.proofs.item.Tie as tie
+use Rattle.formulas.proofs.tuples.item.Statement.{statement}
+use Rattle.formulas.proofs.tuples.item.Tie as tie
 
 returns : tie.Need-returns
 returns c =

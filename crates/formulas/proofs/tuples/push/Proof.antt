@@ -7,8 +7,8 @@ use native.Mathlib.Numerals.{add-one}
 use mathlib.Core.Path.{_≡_, refl}
 use lib.ListN.{length}
 use lib.Seq.{take-suc-set}
-use Rattle.formulas.proofs.push.Statement.{statement}
-use Rattle.formulas.proofs.push.Tie as tie
+use Rattle.formulas.proofs.tuples.push.Statement.{statement}
+use Rattle.formulas.proofs.tuples.push.Tie as tie
 
 returns : tie.Need-returns
 returns c =

@@ -5,16 +5,16 @@ use mathlib.Core.Path.{_≡_}
 use lib.ListN.{length}
 use borrow.Fn.Kinds.{In, Out}
 use borrow.Fn.PlainCycle.{Measures}
-use Rattle.formulas.proofs.+read_term.Lts-read_term as term
-use Rattle.formulas.proofs.read_term.Kinds as of-term
-use Rattle.formulas.proofs.read_term.Reads as read-term
+use Rattle.formulas.proofs.terms.+read_term.Lts-read_term as term
+use Rattle.formulas.proofs.terms.read_term.Kinds as of-term
+use Rattle.formulas.proofs.terms.read_term.Reads as read-term
 use Rattle.basics.proofs.element.Reads as element-reads
 use Rattle.basics.proofs.wide.Reads as wide-reads
 use Rattle.formulas.proofs.is_range.Reads as is-range-reads
-use Rattle.formulas.proofs.operands_of.Reads as operands-of-reads
-use Rattle.formulas.proofs.term_kind_of.Reads as term-kind-of-reads
-use Rattle.formulas.proofs.term_result.Reads as term-result-reads
-use Rattle.formulas.proofs.item.Reads as item-reads
+use Rattle.formulas.proofs.codes.operands_of.Reads as operands-of-reads
+use Rattle.formulas.proofs.codes.term_kind_of.Reads as term-kind-of-reads
+use Rattle.formulas.proofs.terms.term_result.Reads as term-result-reads
+use Rattle.formulas.proofs.tuples.item.Reads as item-reads
 
 -- what is left of the body
 abbrev pub μ-term : Measures 1 of-term.ps ℕ
