@@ -2,7 +2,7 @@
 -- Where nothing can be read the reply says so. n bounds how deep the decoder goes: the bytes left are enough.
 use Prim.Native.Nat.{ℕ, _+_, _≤_}
 use mathlib.Core.Path.{_≡_}
-use mathlib.Core.Bool.{true, false}
+use mathlib.Core.Bool.{Bool, true, false}
 use mathlib.Core.List.{List, _∷_}
 use lib.Dec.{leb}
 use lib.ListN.{length}
@@ -23,19 +23,34 @@ use Rattle.evaluator.specs.Values.{valued}
 abbrev pub formula-there : ℕ → List ℕ → Tuple → ℕ → ℕ → Parsed Formula
 formula-there n s scope q at = when (leb (scope .count) (4 + q)) (formula-at n s (scope .count) q at)
 
-abbrev pub no-value : Valued
-no-value = record { ok = false; value = False; next = 0 }
+-- the instance whose equation stands at a place: past the end of the bytes there is none
+abbrev pub instance-there : ℕ → List ℕ → Tuple → ℕ → Parsed Formula
+instance-there n s scope at = when (leb at (length s)) (instance-at n s (scope .count) at)
 
-abbrev pub value-reply : (Formula → Value) → Parsed Formula → Valued
-value-reply d none = no-value
-value-reply d (some f e) = record { ok = true; value = d f; next = e }
+-- whether something was read, what is said of it, and where it ends
+pub record Reply (Said : Type 0) : Type 0 where
+  pub ok : Bool
+  pub said : Said
+  pub next : ℕ
 
--- r is the value of the formula at `at`, where σ gives the value of each instance's word
+-- what `d` says of the formula; `nothing` and 0, where there is none
+abbrev pub reply : {Said : Type 0} → Said → (Formula → Said) → Parsed Formula → Reply Said
+reply nothing d none = record { ok = false; said = nothing; next = 0 }
+reply nothing d (some f e) = record { ok = true; said = d f; next = e }
+
+-- its value, where σ gives the value of each instance's word
+abbrev pub value-reply : (ℕ → Value) → Tuple → Parsed Formula → Reply Value
+value-reply σ scope = reply False (λ f. valued f σ (items scope))
+
+-- r says this of the formula at `at`
 pub record ValueReply (σ : ℕ → Value) (s : List ℕ) (at : ℕ) (scope : Tuple) (q : ℕ) (r : Valued)
     : Type 0 where
-  pub on : r .ok ≡ true → at ≤ r .next
   pub replies : (n : ℕ) → length s ≤ n + at
-      → r ≡ value-reply (λ f. valued f σ (items scope)) (formula-there n s scope q at)
+      → record { ok = r .ok; said = r .value; next = r .next }
+      ≡ value-reply σ scope (formula-there n s scope q at)
+
+abbrev pub no-value : Valued
+no-value = record { ok = false; value = False; next = 0 }
 
 -- the value of a whole body: that of the formula at its start; false where there is none
 unfoldable pub body-value : (ℕ → Value) → List ℕ → Tuple → Value
@@ -52,12 +67,11 @@ instance-word v (instance e ts) = word (e ∷ values ts v)
 abbrev pub no-word : WordAt
 no-word = record { ok = false; word = 0; next = 0 }
 
-abbrev pub word-reply : List ℕ → Parsed Formula → WordAt
-word-reply v none = no-word
-word-reply v (some f e) = record { ok = true; word = instance-word v f; next = e }
+abbrev pub word-reply : Tuple → Parsed Formula → Reply ℕ
+word-reply scope = reply 0 (instance-word (items scope))
 
--- r is the word of the instance whose equation stands at `at`; past the end of the bytes there is none
+-- r is the word of the instance whose equation stands at `at`
 pub record WordReply (s : List ℕ) (at : ℕ) (scope : Tuple) (r : WordAt) : Type 0 where
-  pub on : r .ok ≡ true → at ≤ r .next
   pub replies : (n : ℕ) → length s ≤ n + at
-      → r ≡ word-reply (items scope) (when (leb at (length s)) (instance-at n s (scope .count) at))
+      → record { ok = r .ok; said = r .word; next = r .next }
+      ≡ word-reply scope (instance-there n s scope at)

@@ -1,34 +1,32 @@
 // The value of a formula over the bytes of a body: a formula calls on a quantifier's fold, which calls on the
 // formula inside it. A table of words says which instances have a number, and a set which of these are true.
+mod leaves;
 mod tables;
 mod terms;
 mod values;
 
 ghost use mathlib.Core.Path.{_≡_};
-ghost use mathlib.Core.List.{_∷_};
-ghost use Prim.Native.Nat.{_+_, _≤_, _<_};
+ghost use Prim.Native.Nat.{_+_, _≤_};
 ghost use lib.ListN.{length};
-ghost use Rattle.meaning.specs.Formulas.{value, test-holds};
 ghost use Rattle.truth.specs.Bits.{bit-of};
-ghost use Rattle.formulas.specs.Contract.{TermsTold, InstanceTold, FormulaTold};
-ghost use Rattle.formulas.specs.Decode.{nth-term, test-of};
+ghost use Rattle.formulas.specs.Contract.{FormulaTold};
 ghost use Rattle.formulas.specs.Tuples.{items};
-ghost use Rattle.evaluator.specs.Values.{known, valued, value-in};
-ghost use Rattle.evaluator.specs.Replies.{no-value, ValueReply, no-word, WordReply, body-value};
+ghost use Rattle.evaluator.specs.Values.{valued, value-in};
+ghost use Rattle.evaluator.specs.Replies.{ValueReply, body-value};
 ghost use Rattle.evaluator.specs.Folds.{folded, Foldable};
 use basics::element;
 use basics::wide;
 use formulas::Kind;
-use formulas::Test;
 use formulas::Tuple;
 use formulas::is_range;
-use formulas::item;
 use formulas::kind_of;
 use formulas::push;
+use leaves::compare;
+use leaves::instance;
+use leaves::no_formula;
+use leaves::result;
+pub use leaves::word_at;
 pub use tables::lookup;
-use tables::value_of;
-use terms::arguments;
-use terms::term;
 use values::decides;
 use values::joined;
 use values::known;
@@ -63,101 +61,6 @@ pub struct Stretch {
     pub to: u8,
 }
 
-fn tested(t: Test, a: u8, b: u8) -> bool
-    ensures { λ r. ⌜ r ≡ test-holds (test-of t) a b ⌝ }
-{
-    match t {
-        Test::Equal => a == b,
-        Test::Less => a < b,
-        Test::Unequal => a != b,
-        Test::NotLess => !(a < b),
-    }
-}
-
-// Nothing was read.
-fn no_formula() -> Valued
-    ensures { λ r. ⌜ r ≡ no-value ⌝ }
-{
-    Valued {
-        ok: false,
-        value: Value::False,
-        next: 0,
-    }
-}
-
-// The test of the two terms that stand from `at` on.
-fn compare(body: &[u8], at: usize, scope: Tuple, t: Test) -> Valued
-    ensures { λ r. ⌜ TermsTold (λ ts. r .value ≡ known (test-holds (test-of t)
-        (value (nth-term ts 0) (items scope)) (value (nth-term ts 1) (items scope)))) 2
-        (now (body .entry)) (scope .count) at (r .ok) (r .next) ⌝ }
-{
-    let a = term(body, at, scope);
-    let m = a.next;
-    if !a.ok {
-        return no_formula();
-    }
-    let b = term(body, m, scope);
-    Valued {
-        ok: b.ok,
-        value: known(tested(t, a.value, b.value)),
-        next: b.next,
-    }
-}
-
-// No instance stands at a place.
-fn no_word() -> WordAt
-    ensures { λ r. ⌜ r ≡ no-word ⌝ }
-{
-    WordAt {
-        ok: false,
-        word: 0,
-        next: 0,
-    }
-}
-
-// The word of the instance whose equation, number of arguments and arguments stand from `at` on.
-pub fn word_at(body: &[u8], at: usize, scope: Tuple) -> WordAt
-    ensures { λ r. ⌜ WordReply (now (body .entry)) at scope r ⌝ }
-{
-    if body.len() < at {
-        return no_word();
-    }
-    let e = element(body, at);
-    let n = element(body, at + 1);
-    if 4 < n {
-        return no_word();
-    }
-    let none = Tuple {
-        values: [0; 8],
-        count: 0,
-    };
-    let got = arguments(body, at + 2, scope, n, none);
-    if !got.ok {
-        return no_word();
-    }
-    let values = got.values;
-    WordAt {
-        ok: true,
-        word: words::word_of(e, values),
-        next: got.next,
-    }
-}
-
-// The value of the instance whose equation stands at `at`.
-fn instance(body: &[u8], at: usize, scope: Tuple, table: &[u32], truth: &[u64; 8]) -> Valued
-    requires { ⌜ at ≤ length (now body) ⌝ }
-    ensures { λ r. ⌜ InstanceTold
-        (λ f. r .value ≡ valued f (value-in (now (table .entry)) (bit-of (now (truth .entry)))) (items scope))
-        (now (body .entry)) (scope .count) at (r .ok) (r .next) ⌝ }
-{
-    let a = word_at(body, at, scope);
-    Valued {
-        ok: a.ok,
-        value: value_of(table, truth, a.word),
-        next: a.next,
-    }
-}
-
 // The value of the formula that stands at `at`, with q quantifiers around it.
 fn value_in(body: &[u8], at: usize, scope: Tuple, q: u8, table: &[u32], truth: &[u64; 8]) -> Valued
     requires { ⌜ scope .count ≤ 4 + q ⌝ }
@@ -172,11 +75,7 @@ fn value_in(body: &[u8], at: usize, scope: Tuple, q: u8, table: &[u32], truth: &
     let kind = kind_of(element(body, at));
     match kind {
         Kind::NoFormula => no_formula(),
-        Kind::Constant(b) => Valued {
-            ok: true,
-            value: known(b),
-            next,
-        },
+        Kind::Constant(b) => result(true, known(b), next),
         Kind::Join(all) => {
             // In one place, for a small frame: the first operand, then the second.
             let mut a = value_in(body, next, scope, q, table, truth);
@@ -187,11 +86,7 @@ fn value_in(body: &[u8], at: usize, scope: Tuple, q: u8, table: &[u32], truth: &
             let x = a.value;
             a = value_in(body, m, scope, q, table, truth);
             let y = a.value;
-            Valued {
-                ok: a.ok,
-                value: joined(all, x, y),
-                next: a.next,
-            }
+            result(a.ok, joined(all, x, y), a.next)
         }
         Kind::Quantifier(all) => {
             if 4 <= q {
@@ -262,11 +157,7 @@ fn fold(
     };
     a = fold(body, at, scope, second, table, truth);
     let y = a.value;
-    Valued {
-        ok: a.ok,
-        value: joined(all, x, y),
-        next: a.next,
-    }
+    result(a.ok, joined(all, x, y), a.next)
 }
 
 // The value of the formula that stands at `at`, with q quantifiers around it; at most four variables in

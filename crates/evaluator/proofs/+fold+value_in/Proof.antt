@@ -45,8 +45,9 @@ module _ (t : ℕ) where
   a-constant : formula.Need-returns-6 (formula-calls t) (formula-at t) formula-post
   unfolding valued
   a-constant c =
-      let arm = c .before .before in
-      law.formula-constant (head (arm .before .before)) (arm .kind .given .1) (c .known .ensures) refl
+      let arm = c .before .before .before in
+      rw (c .result .ensures)
+      (law.formula-constant (head (arm .before .before)) (arm .kind .given .1) (c .before .known .ensures) refl)
 
   join-stopped : formula.Need-returns-2 (formula-calls t) (formula-at t) formula-post
   join-stopped c =
@@ -59,11 +60,13 @@ module _ (t : ℕ) where
   a-join : formula.Need-returns-7 (formula-calls t) (formula-at t) formula-post
   unfolding valued
   a-join c =
-      let first = c .before .before .before .before in
+      let second = c .before .before in
+      let first = second .before .before .before in
       let arm = first .before .before in
-      law.formula-join (head (arm .before .before)) (arm .kind2 .given .1) (first .value-in .ensures)
-      (not-false _ (c .before .before .if2 .left)) (c .before .value-in2 .ensures)
-      (λ _ _ x y. rw (← x, ← y) (c .joined .ensures))
+      rw (c .result2 .ensures)
+      (law.formula-join (head (arm .before .before)) (arm .kind2 .given .1) (first .value-in .ensures)
+      (not-false _ (second .before .if2 .left)) (second .value-in2 .ensures)
+      (λ _ _ x y. rw (← x, ← y) (c .before .joined .ensures)))
 
   a-fifth : formula.Need-returns-3 (formula-calls t) (formula-at t) formula-post
   a-fifth c =
@@ -136,10 +139,12 @@ module _ (t : ℕ) where
   both-halves : fold.Need-returns-4 (fold-calls t) (fold-at t) fold-post
   unfolding at-value
   both-halves c =
-      let first = c .before .before .before .before .before .before in
+      let second = c .before .before in
+      let first = second .before .before .before .before .before in
       let s = first .before .before .before .before in
-      law.formula-map (law.formula-both (c .before .fold2 .ensures) (first .fold .ensures))
-      (λ f x. c .joined .ensures ∙ rw (x .1, x .0) (halves (s .args .stretch .all) (at-value s f) (omega arith) (omega arith)))
+      rw (c .result .ensures) (law.formula-map (law.formula-both (second .fold2 .ensures) (first .fold .ensures))
+      (λ f x. c .before .joined .ensures ∙ rw (x .1, x .0)
+      (halves (s .args .stretch .all) (at-value s f) (omega arith) (omega arith))))
 
 pub +fold+value-in-spec : {M : Type 1} → cycle.statement M
 +fold+value-in-spec =
@@ -147,13 +152,14 @@ pub +fold+value-in-spec : {M : Type 1} → cycle.statement M
     (λ t. fold.spec (fold-calls t) (fold-at t) fold-post
     (λ c. omega (arith, c .before .before .pre .1 .some)) (λ c κs. search needs) (λ c. omega arith)
     (λ c κs. omega (arith, c .push .ensures .1 (omega arith) .0)) (the-last t) (λ c. omega arith) (λ c κs. omega arith)
-    (stopped t) (λ c κs. search needs) (decided t) (λ c κs. omega arith) (λ c κs. search needs) (both-halves t))
+    (stopped t) (λ c κs. search needs) (decided t) (λ c κs. omega arith) (λ c κs. search needs)
+    (λ c κs. search needs) (both-halves t))
     (λ t. formula.spec (formula-calls t) (formula-at t) formula-post
     (λ c κs. search needs) (past-the-end t) (λ c. search needs) (λ c κs. search needs) (λ c κs. search needs)
-    (λ c. search needs) (λ c κs. search needs) (λ c. search needs) (λ c κs. search needs) (λ c. search needs)
-    (λ c κs. omega arith) (λ c κs. search needs) (join-stopped t)
+    (λ c. search needs) (λ c κs. search needs) (λ c. search needs) (λ c κs. search needs) (λ c κs. search needs)
+    (λ c. search needs) (λ c κs. omega arith) (λ c κs. search needs) (join-stopped t)
     (λ c κs. omega (arith, law.formula-on (c .before .before .value-in .ensures) (not-false _ (c .if2 .left))))
-    (λ c κs. search needs) (λ c. search needs) (λ c κs. search needs) (a-fifth t) (λ c κs. search needs)
+    (λ c κs. search needs) (λ c κs. search needs) (λ c. search needs) (λ c κs. search needs) (a-fifth t) (λ c κs. search needs)
     (λ c κs. search needs) (λ c κs. search needs) (no-range t) (λ c. search needs) (some-values t) (λ c. search needs)
     (λ c κs. search needs) (λ c. search needs) (λ c κs. search needs) (no-formula t) (a-constant t)
     (a-join t) (a-quantifier t) (a-comparison t) (an-instance t))

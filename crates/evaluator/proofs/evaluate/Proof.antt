@@ -4,7 +4,6 @@ use native.Mathlib.Omega.{arith}
 use lib.ListN.{length}
 use borrow.Author.Needs.{needs}
 use Rattle.truth.specs.Bits.{bit-of}
-use Rattle.formulas.specs.Tuples.{items}
 use Rattle.evaluator.specs.Values.{value-in}
 use Rattle.evaluator.specs.Replies.{formula-there, body-value}
 use Rattle.evaluator.proofs.Replies.{body-valued}
@@ -16,7 +15,7 @@ unfolding body-value
 returns c =
     let a = c .before .before .before .args in
     let n = length (a .body .now) in
-    body-valued (value-in (a .table .now) (bit-of (a .truth .now))) (items (a .scope)) _
+    body-valued (value-in (a .table .now) (bit-of (a .truth .now))) (a .scope) _
     (formula-there n (a .body .now) (a .scope) 0 0) (c .value-at .ensures .replies n (omega arith))
 
 pub evaluate-spec : {M : Type 1} → statement M

@@ -12,9 +12,10 @@ use Rattle.evaluator.proofs.fold.Reads as fold-reads
 use Rattle.evaluator.proofs.value_in.Kinds as of-formula
 use Rattle.evaluator.proofs.value_in.Reads as formula-reads
 use Rattle.basics.proofs.element.Reads as element-reads
-use Rattle.evaluator.proofs.compare.Reads as compare-reads
-use Rattle.evaluator.proofs.instance.Reads as instance-reads
-use Rattle.evaluator.proofs.no_formula.Reads as no-formula-reads
+use Rattle.evaluator.proofs.leaves.compare.Reads as compare-reads
+use Rattle.evaluator.proofs.leaves.instance.Reads as instance-reads
+use Rattle.evaluator.proofs.leaves.no_formula.Reads as no-formula-reads
+use Rattle.evaluator.proofs.leaves.result.Reads as result-reads
 use Rattle.evaluator.proofs.values.decides.Reads as decides-reads
 use Rattle.evaluator.proofs.values.joined.Reads as joined-reads
 use Rattle.evaluator.proofs.values.known.Reads as known-reads
@@ -60,6 +61,8 @@ module _ (t : ℕ) where
     decides-reads.Learnt,
     joined-reads.Asked,
     joined-reads.Learnt,
+    result-reads.Asked,
+    result-reads.Learnt,
   )
 
   abbrev pub formula-calls : formula.Claims
@@ -72,6 +75,8 @@ module _ (t : ℕ) where
     kind-of-reads.Learnt,
     known-reads.Asked,
     known-reads.Learnt,
+    result-reads.Asked,
+    result-reads.Learnt,
     formula-below,
     formula-post,
     joined-reads.Asked,

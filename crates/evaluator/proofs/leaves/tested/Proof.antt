@@ -1,8 +1,8 @@
 -- `evaluator::tested` meets its contract: the code of each test is its definition.
 -- Which test it is stands in the arm.
 use borrow.Author.Needs.{needs}
-use Rattle.evaluator.proofs.tested.Statement.{statement}
-use Rattle.evaluator.proofs.tested.Tie as tie
+use Rattle.evaluator.proofs.leaves.tested.Statement.{statement}
+use Rattle.evaluator.proofs.leaves.tested.Tie as tie
 
 pub tested-spec : {M : Type 1} → statement M
 tested-spec =
