@@ -73,8 +73,9 @@ fn bound(text: &str) -> HashSet<String> {
 }
 
 /// Code, written as specs are: what it uses, structs and enums, and the contracts of public functions.
-fn as_specs(code: &str) -> String {
+fn as_specs(in_crate: &str, code: &str) -> String {
     let mut specs = String::new();
+    let code = code.replace("crate::", &format!("{in_crate}::"));
     for paragraph in format!("\n{code}").replace("\n//", "\n--").replace("\n#", "\n--").split("\n\n") {
         let paragraph = paragraph.replace(['[', ']', '&'], " ").replace(": ", " : ");
         let lines = || paragraph.lines().filter(|l| !l.starts_with("--"));
@@ -197,7 +198,7 @@ fn main() {
         for entry in read_dir(format!("crates/{in_crate}/{folder}")).into_iter().flatten().flatten() {
             if let Some((name, ending)) = entry.file_name().to_string_lossy().split_once('.') {
                 let text = read(&entry.path().to_string_lossy());
-                let source = source_of(&if ending == "rt" { as_specs(&text) } else { text });
+                let source = source_of(&if ending == "rt" { as_specs(in_crate, &text) } else { text });
                 sources.insert(format!("{in_crate}/{folder}/{name}"), source);
             }
         }
