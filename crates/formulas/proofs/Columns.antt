@@ -1,10 +1,10 @@
 -- The reader's table is the definition's: what its two columns say of a code is the code's row.
--- One test that antt computes, over all rows; the last place has no row, for all other codes.
-use Prim.Native.Nat.{ℕ, zero, suc, _-_, _≤_, _<_, min}
+-- One test that antt computes, over all rows; before and past the table stands no row, as at one place in it.
+use Prim.Native.Nat.{ℕ, zero, suc, _-_, _≤_, _<_}
 use native.Mathlib.Omega.{arith}
 use mathlib.Core.Path.{_≡_, refl, sym, ap, _∙_}
 use mathlib.Core.Bool.{Bool, true, false}
-use mathlib.Core.List.{List, [], _∷_, _++_}
+use mathlib.Core.List.{List, [], _∷_}
 use lib.Dec.{leb}
 use lib.ListN.{length, getD, List·getD-eq-default}
 use borrow.Author.Tests.{leb-true, leb-false}
@@ -15,10 +15,10 @@ use Rattle.formulas.specs.Contract.{row-number, numbered-kinds, kind-num
 use Rattle.formulas.specs.Contract.{term-kind-numbered}
 
 abbrev kinds : List ℕ
-kinds = 1 ∷ 2 ∷ 3 ∷ 4 ∷ 5 ∷ 6 ∷ 7 ∷ 8 ∷ 9 ∷ 10 ∷ 11 ∷ 0 ∷ 0 ∷ 0 ∷ 0 ∷ 0 ∷ 12 ∷ 13 ∷ 14 ∷ 15 ∷ 0 ∷ []
+kinds = 1 ∷ 2 ∷ 3 ∷ 4 ∷ 5 ∷ 6 ∷ 7 ∷ 8 ∷ 9 ∷ 10 ∷ 11 ∷ 0 ∷ 0 ∷ 0 ∷ 0 ∷ 0 ∷ 12 ∷ 13 ∷ 14 ∷ 15 ∷ []
 
 abbrev operands : List ℕ
-operands = 0 ∷ 0 ∷ 2 ∷ 2 ∷ 2 ∷ 2 ∷ 2 ∷ 2 ∷ 2 ∷ 2 ∷ 2 ∷ 0 ∷ 0 ∷ 0 ∷ 0 ∷ 0 ∷ 1 ∷ 1 ∷ 3 ∷ 3 ∷ 0 ∷ []
+operands = 0 ∷ 0 ∷ 2 ∷ 2 ∷ 2 ∷ 2 ∷ 2 ∷ 2 ∷ 2 ∷ 2 ∷ 2 ∷ 0 ∷ 0 ∷ 0 ∷ 0 ∷ 0 ∷ 1 ∷ 1 ∷ 3 ∷ 3 ∷ []
 
 -- the row of a kind's number and a number of operands
 abbrev numbered : ℕ → ℕ → Row
@@ -29,7 +29,7 @@ side-by-side [] cs = []
 side-by-side (n ∷ ns) [] = []
 side-by-side (n ∷ ns) (c ∷ cs) = numbered n c ∷ side-by-side ns cs
 
-columns-are-rows : side-by-side kinds operands ≡ rows ++ (no-row ∷ [])
+columns-are-rows : side-by-side kinds operands ≡ rows
 unfolding kind-numbered term-kind-numbered
 columns-are-rows = refl
 
@@ -42,22 +42,17 @@ side-by-side-at (n ∷ ns) [] i h = absurd (omega arith)
 side-by-side-at (n ∷ ns) (c ∷ cs) zero h = refl
 side-by-side-at (n ∷ ns) (c ∷ cs) (suc i) h = side-by-side-at ns cs i (omega arith)
 
--- the place after the last one serves for all that are past it
-last-for-all : (l : List Row) (i : ℕ) → getD (l ++ (no-row ∷ [])) (min i (length l)) no-row ≡ getD l i no-row
-last-for-all [] i = let z : min i 0 ≡ 0 = omega arith in rw z refl
-last-for-all (r ∷ l) zero = let z : min 0 (length (r ∷ l)) ≡ 0 = omega arith in rw z refl
-last-for-all (r ∷ l) (suc i) =
-    let z : min (suc i) (suc (length l)) ≡ suc (min i (length l)) = omega arith in rw z (last-for-all l i)
-
 module _ (code : ℕ) where
-  row-there : (b : Bool) → leb 0x10 code ≡ b → row-of code ≡ getD (rows ++ (no-row ∷ [])) (row-number code) no-row
+  row-there : (b c : Bool) → leb 0x10 code ≡ b → leb code 0x23 ≡ c → row-of code ≡ getD rows (row-number code) no-row
   unfolding row-of
-  row-there true h = rw h (sym (last-for-all rows (code - 0x10)))
-  row-there false h = rw h refl
+  row-there false c h k = rw h refl
+  row-there true true h k = rw (h, k) refl
+  row-there true false h k =
+      rw (h, k) (List·getD-eq-default rows no-row {n = code - 0x10} (omega (arith, leb-false code 0x23 k)))
 
   in-columns : row-of code ≡ numbered (getD kinds (row-number code) 0) (getD operands (row-number code) 0)
   in-columns =
-      row-there (leb 0x10 code) refl ∙
+      row-there (leb 0x10 code) (leb code 0x23) refl refl ∙
       ap (λ (l : List Row). getD l (row-number code) no-row) (sym columns-are-rows) ∙
       side-by-side-at kinds operands (row-number code) refl
 

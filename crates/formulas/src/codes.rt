@@ -8,9 +8,8 @@ use crate::Kind;
 use crate::TermKind;
 use crate::Test;
 
-// Of each code from 10 to 23 the number of its kind; 0 for what begins neither a formula nor a term. The last
-// place is that of all other codes.
-const KINDS: [u8; 21] = [
+// Of each code from 10 to 23 the number of its kind; 0 for what begins neither a formula nor a term.
+const KINDS: [u8; 20] = [
     1,
     2,
     3,
@@ -31,42 +30,22 @@ const KINDS: [u8; 21] = [
     13,
     14,
     15,
-    0,
 ];
 
 // Of the same codes how many operands come after them.
-const OPERANDS: [u8; 21] = [
-    0,
-    0,
-    2,
-    2,
-    2,
-    2,
-    2,
-    2,
-    2,
-    2,
-    2,
-    0,
-    0,
-    0,
-    0,
-    0,
-    1,
-    1,
-    3,
-    3,
-    0,
-];
+const OPERANDS: [u8; 20] = [0, 0, 2, 2, 2, 2, 2, 2, 2, 2, 2, 0, 0, 0, 0, 0, 1, 1, 3, 3];
 
-// The place of a code in both tables.
+// The place of a code in both tables; for a code outside them that of 1b, which has no kind and no operands.
 fn row_of(code: u8) -> usize
-    ensures { λ r. ⌜ (r ≡ row-number code) × (r < 21) ⌝ }
+    ensures { λ r. ⌜ (r ≡ row-number code) × (r < 20) ⌝ }
 {
     if code < 0x10 {
-        return 20;
+        return 11;
     }
-    basics::smaller(basics::wide(code - 0x10), 20)
+    if 0x23 < code {
+        return 11;
+    }
+    basics::wide(code - 0x10)
 }
 
 // The number of a code's kind, to which `kind_of` and `term_kind_of` give a name.
