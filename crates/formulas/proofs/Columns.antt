@@ -1,5 +1,5 @@
 -- The reader's table is the definition's: what its two columns say of a code is the code's row.
--- One test that antt computes, over all rows; before and past the table stands no row, as at one place in it.
+-- One test that antt computes, over all rows; before and past the table stands no row, and the number of no kind.
 use Prim.Native.Nat.{ℕ, zero, suc, _-_, _≤_, _<_}
 use native.Mathlib.Omega.{arith}
 use mathlib.Core.Path.{_≡_, refl, sym, ap, _∙_}
@@ -11,7 +11,7 @@ use borrow.Author.Tests.{leb-true, leb-false}
 use Rattle.formulas.specs.declared.Kind.the-variants.{NoFormula}
 use Rattle.formulas.specs.declared.TermKind.the-variants.{NoTerm}
 use Rattle.formulas.specs.Codes.{Row, row, no-row, rows, row-of, kind-of, term-kind-of, operands-of}
-use Rattle.formulas.specs.Contract.{row-number, numbered-kinds, kind-numbered, numbered-term-kinds}
+use Rattle.formulas.specs.Contract.{table-entry, numbered-kinds, kind-numbered, numbered-term-kinds}
 use Rattle.formulas.specs.Contract.{term-kind-numbered}
 
 abbrev kinds : List ℕ
@@ -43,27 +43,25 @@ side-by-side-at (n ∷ ns) (c ∷ cs) zero h = refl
 side-by-side-at (n ∷ ns) (c ∷ cs) (suc i) h = side-by-side-at ns cs i (omega arith)
 
 module _ (code : ℕ) where
-  row-there : (b c : Bool) → leb 0x10 code ≡ b → leb code 0x23 ≡ c → row-of code ≡ getD rows (row-number code) no-row
-  unfolding row-of
-  row-there false c h k = rw h refl
-  row-there true true h k = rw (h, k) refl
-  row-there true false h k =
-      rw (h, k) (List·getD-eq-default rows no-row {n = code - 0x10} (omega (arith, leb-false code 0x23 k)))
+  in-columns : (b : Bool) → leb 0x10 code ≡ b
+      → row-of code ≡ numbered (table-entry kinds code) (table-entry operands code)
+  unfolding row-of kind-numbered term-kind-numbered
+  in-columns true h =
+      rw h (ap (λ (l : List Row). getD l (code - 0x10) no-row) (sym columns-are-rows) ∙
+      side-by-side-at kinds operands (code - 0x10) refl)
+  in-columns false h = rw h refl
 
-  in-columns : row-of code ≡ numbered (getD kinds (row-number code) 0) (getD operands (row-number code) 0)
-  in-columns =
-      row-there (leb 0x10 code) (leb code 0x23) refl refl ∙
-      ap (λ (l : List Row). getD l (row-number code) no-row) (sym columns-are-rows) ∙
-      side-by-side-at kinds operands (row-number code) refl
+  abbrev row-read : row-of code ≡ numbered (table-entry kinds code) (table-entry operands code)
+  row-read = in-columns (leb 0x10 code) refl
 
-  pub kind-in : kind-numbered (getD kinds (row-number code) 0) ≡ kind-of code
-  kind-in = ap (λ (r : Row). r .formula) (sym in-columns)
+  pub kind-in : kind-numbered (table-entry kinds code) ≡ kind-of code
+  kind-in = ap (λ (r : Row). r .formula) (sym row-read)
 
-  pub term-kind-in : term-kind-numbered (getD kinds (row-number code) 0) ≡ term-kind-of code
-  term-kind-in = ap (λ (r : Row). r .term) (sym in-columns)
+  pub term-kind-in : term-kind-numbered (table-entry kinds code) ≡ term-kind-of code
+  term-kind-in = ap (λ (r : Row). r .term) (sym row-read)
 
-  pub operands-in : getD operands (row-number code) 0 ≡ operands-of code
-  operands-in = ap (λ (r : Row). r .operands) (sym in-columns)
+  pub operands-in : table-entry operands code ≡ operands-of code
+  operands-in = ap (λ (r : Row). r .operands) (sym row-read)
 
 -- the number of no kind
 pub no-formula : (n : ℕ) → (n ≤ 11 → n ≤ 5) → (n ≤ 5 → n ≡ 0) → NoFormula ≡ kind-numbered n

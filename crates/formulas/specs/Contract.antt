@@ -1,7 +1,7 @@
 -- What the contracts of the formula reader's inner functions say; no word of the documents is defined here.
 -- `Told` is two-sided: whether something was read, and where it was, where it ends and what holds of it.
 use Prim.Native.Nat.{ℕ, zero, suc, _+_, _-_, _*_, _≤_, _<_, min}
-use mathlib.Core.Bool.{Bool, true, false, cond, _&&_}
+use mathlib.Core.Bool.{Bool, true, false, cond}
 use mathlib.Core.List.{List, [], _∷_}
 use lib.Dec.{leb, ltb}
 use lib.ListN.{length, getD}
@@ -16,9 +16,9 @@ use Rattle.formulas.specs.declared.Test.the-variants.{Equal, Less, Unequ
 use Rattle.formulas.specs.Decode.{Parsed, none, some, term-at, terms-at, formula-at}
 use Rattle.formulas.specs.Shapes.{instance-at}
 
--- ---- the place of a code in the reader's two tables; outside them a code is as 1b, which has no kind
-abbrev pub row-number : ℕ → ℕ
-row-number code = cond (leb 0x10 code && leb code 0x23) (code - 0x10) 11
+-- ---- what a table of the codes from 10 on has for a code; 0 for other codes
+abbrev pub table-entry : List ℕ → ℕ → ℕ
+table-entry table code = cond (leb 0x10 code) (getD table (code - 0x10) 0) 0
 
 -- ---- the numbers of the kinds, by which the reader's table has them: formulas from 1 on, terms from 12 on
 abbrev pub numbered-kinds : List Kind

@@ -1,9 +1,8 @@
 // What each code begins, and how many operands come after it, in two tables.
 ghost use mathlib.Core.Bool.{true, false};
 ghost use mathlib.Core.Path.{_≡_};
-ghost use Prim.Native.Nat.{_<_};
 ghost use Rattle.formulas.specs.Codes.{kind-of, term-kind-of, operands-of};
-ghost use Rattle.formulas.specs.Contract.{row-number, kind-numbered, term-kind-numbered};
+ghost use Rattle.formulas.specs.Contract.{table-entry, kind-numbered, term-kind-numbered};
 use crate::Kind;
 use crate::TermKind;
 use crate::Test;
@@ -35,25 +34,21 @@ const KINDS: [u8; 20] = [
 // Of the same codes how many operands come after them.
 const OPERANDS: [u8; 20] = [0, 0, 2, 2, 2, 2, 2, 2, 2, 2, 2, 0, 0, 0, 0, 0, 1, 1, 3, 3];
 
-// The place of a code in both tables; for a code outside them that of 1b, which has no kind and no operands.
-fn row_of(code: u8) -> usize
-    ensures { λ r. ⌜ (r ≡ row-number code) × (r < 20) ⌝ }
+// What a table of the codes from 10 to 23 has for a code; 0 for other codes.
+fn entry(table: &[u8; 20], code: u8) -> u8
+    ensures { λ r. ⌜ r ≡ table-entry (now (table .entry)) code ⌝ }
 {
     if code < 0x10 {
-        return 11;
+        return 0;
     }
-    if 0x23 < code {
-        return 11;
-    }
-    basics::wide(code - 0x10)
+    basics::element(table, basics::wide(code - 0x10))
 }
 
 // The number of a code's kind, to which `kind_of` and `term_kind_of` give a name.
 fn number_of(code: u8) -> u8
     ensures { λ r. ⌜ (kind-numbered r ≡ kind-of code) × (term-kind-numbered r ≡ term-kind-of code) ⌝ }
 {
-    let i = row_of(code);
-    KINDS[i]
+    entry(&KINDS, code)
 }
 
 pub fn kind_of(code: u8) -> Kind
@@ -92,6 +87,5 @@ pub fn term_kind_of(code: u8) -> TermKind
 pub fn operands_of(code: u8) -> u8
     ensures { λ r. ⌜ r ≡ operands-of code ⌝ }
 {
-    let i = row_of(code);
-    OPERANDS[i]
+    entry(&OPERANDS, code)
 }

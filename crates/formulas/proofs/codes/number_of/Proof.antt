@@ -2,12 +2,11 @@
 -- The first column is the definition's.
 use Rattle.formulas.proofs.Columns.{kind-in, term-kind-in}
 use borrow.Author.Needs.{needs}
-use native.Mathlib.Omega.{arith}
 use Rattle.formulas.proofs.codes.number_of.Statement.{statement}
 use Rattle.formulas.proofs.codes.number_of.Tie as tie
 
 returns : tie.Need-returns
-returns c = let code = c .before .args .code in rw (c .row-of .ensures .0) (kind-in code, term-kind-in code)
+returns c = let code = c .before .before .args .code in rw (c .entry .ensures) (kind-in code, term-kind-in code)
 
 pub number-of-spec : {M : Type 1} → statement M
-number-of-spec = tie.close (tie.spec (λ c κs. search needs) (λ c. omega arith) returns)
+number-of-spec = tie.close (tie.spec (λ c κs. search needs) returns)
