@@ -11,7 +11,7 @@ use borrow.Author.Tests.{leb-true, leb-false}
 use Rattle.formulas.specs.declared.Kind.the-variants.{NoFormula}
 use Rattle.formulas.specs.declared.TermKind.the-variants.{NoTerm}
 use Rattle.formulas.specs.Codes.{Row, row, no-row, rows, row-of, kind-of, term-kind-of, operands-of}
-use Rattle.formulas.specs.Contract.{table-entry, numbered-kinds, kind-numbered, numbered-term-kinds}
+use Rattle.formulas.specs.Contract.{column-entry, numbered-kinds, kind-numbered, numbered-term-kinds}
 use Rattle.formulas.specs.Contract.{term-kind-numbered}
 
 abbrev kinds : List ℕ
@@ -44,23 +44,23 @@ side-by-side-at (n ∷ ns) (c ∷ cs) (suc i) h = side-by-side-at ns cs i (omega
 
 module _ (code : ℕ) where
   in-columns : (b : Bool) → leb 0x10 code ≡ b
-      → row-of code ≡ numbered (table-entry kinds code) (table-entry operands code)
+      → row-of code ≡ numbered (column-entry kinds code) (column-entry operands code)
   unfolding row-of kind-numbered term-kind-numbered
   in-columns true h =
       rw h (ap (λ (l : List Row). getD l (code - 0x10) no-row) (sym columns-are-rows) ∙
       side-by-side-at kinds operands (code - 0x10) refl)
   in-columns false h = rw h refl
 
-  abbrev row-read : row-of code ≡ numbered (table-entry kinds code) (table-entry operands code)
+  abbrev row-read : row-of code ≡ numbered (column-entry kinds code) (column-entry operands code)
   row-read = in-columns (leb 0x10 code) refl
 
-  pub kind-in : kind-numbered (table-entry kinds code) ≡ kind-of code
+  pub kind-in : kind-numbered (column-entry kinds code) ≡ kind-of code
   kind-in = ap (λ (r : Row). r .formula) (sym row-read)
 
-  pub term-kind-in : term-kind-numbered (table-entry kinds code) ≡ term-kind-of code
+  pub term-kind-in : term-kind-numbered (column-entry kinds code) ≡ term-kind-of code
   term-kind-in = ap (λ (r : Row). r .term) (sym row-read)
 
-  pub operands-in : table-entry operands code ≡ operands-of code
+  pub operands-in : column-entry operands code ≡ operands-of code
   operands-in = ap (λ (r : Row). r .operands) (sym row-read)
 
 -- the number of no kind

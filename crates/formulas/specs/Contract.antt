@@ -16,9 +16,9 @@ use Rattle.formulas.specs.declared.Test.the-variants.{Equal, Less, Unequ
 use Rattle.formulas.specs.Decode.{Parsed, none, some, term-at, terms-at, formula-at}
 use Rattle.formulas.specs.Shapes.{instance-at}
 
--- ---- what a table of the codes from 10 on has for a code; 0 for other codes
-abbrev pub table-entry : List ℕ → ℕ → ℕ
-table-entry table code = cond (leb 0x10 code) (getD table (code - 0x10) 0) 0
+-- ---- what a column of the codes from 10 on has for a code; 0 for other codes
+abbrev pub column-entry : List ℕ → ℕ → ℕ
+column-entry column code = cond (leb 0x10 code) (getD column (code - 0x10) 0) 0
 
 -- ---- the numbers of the kinds, by which the reader's table has them: formulas from 1 on, terms from 12 on
 abbrev pub numbered-kinds : List Kind

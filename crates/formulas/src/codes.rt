@@ -2,7 +2,7 @@
 ghost use mathlib.Core.Bool.{true, false};
 ghost use mathlib.Core.Path.{_≡_};
 ghost use Rattle.formulas.specs.Codes.{kind-of, term-kind-of, operands-of};
-ghost use Rattle.formulas.specs.Contract.{table-entry, kind-numbered, term-kind-numbered};
+ghost use Rattle.formulas.specs.Contract.{column-entry, kind-numbered, term-kind-numbered};
 use crate::Kind;
 use crate::TermKind;
 use crate::Test;
@@ -34,21 +34,25 @@ const KINDS: [u8; 20] = [
 // Of the same codes how many operands come after them.
 const OPERANDS: [u8; 20] = [0, 0, 2, 2, 2, 2, 2, 2, 2, 2, 2, 0, 0, 0, 0, 0, 1, 1, 3, 3];
 
-// What a table of the codes from 10 to 23 has for a code; 0 for other codes.
-fn entry(table: &[u8; 20], code: u8) -> u8
-    ensures { λ r. ⌜ r ≡ table-entry (now (table .entry)) code ⌝ }
+// What a column of the codes from 10 to 23 has for a code; 0 for other codes.
+fn entry(column: [u8; 20], code: u8) -> u8
+    ensures { λ r. ⌜ r ≡ column-entry column code ⌝ }
 {
     if code < 0x10 {
         return 0;
     }
-    basics::element(table, basics::wide(code - 0x10))
+    if 0x23 < code {
+        return 0;
+    }
+    let i = basics::wide(code - 0x10);
+    column[i]
 }
 
 // The number of a code's kind, to which `kind_of` and `term_kind_of` give a name.
 fn number_of(code: u8) -> u8
     ensures { λ r. ⌜ (kind-numbered r ≡ kind-of code) × (term-kind-numbered r ≡ term-kind-of code) ⌝ }
 {
-    entry(&KINDS, code)
+    entry(KINDS, code)
 }
 
 pub fn kind_of(code: u8) -> Kind
@@ -87,5 +91,5 @@ pub fn term_kind_of(code: u8) -> TermKind
 pub fn operands_of(code: u8) -> u8
     ensures { λ r. ⌜ r ≡ operands-of code ⌝ }
 {
-    entry(&OPERANDS, code)
+    entry(OPERANDS, code)
 }

@@ -6,7 +6,7 @@ use Rattle.formulas.proofs.codes.number_of.Statement.{statement}
 use Rattle.formulas.proofs.codes.number_of.Tie as tie
 
 returns : tie.Need-returns
-returns c = let code = c .before .before .args .code in rw (c .entry .ensures) (kind-in code, term-kind-in code)
+returns c = let code = c .before .args .code in rw (c .entry .ensures) (kind-in code, term-kind-in code)
 
 pub number-of-spec : {M : Type 1} → statement M
 number-of-spec = tie.close (tie.spec (λ c κs. search needs) returns)

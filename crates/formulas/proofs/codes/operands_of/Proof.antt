@@ -7,4 +7,4 @@ use Rattle.formulas.proofs.codes.operands_of.Statement.{statement}
 use Rattle.formulas.proofs.codes.operands_of.Tie as tie
 
 pub operands-of-spec : {M : Type 1} → statement M
-operands-of-spec = tie.close (tie.spec (λ c κs. search needs) (λ c. c .entry .ensures ∙ operands-in (c .before .before .args .code)))
+operands-of-spec = tie.close (tie.spec (λ c κs. search needs) (λ c. c .entry .ensures ∙ operands-in (c .before .args .code)))
