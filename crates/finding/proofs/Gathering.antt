@@ -134,26 +134,26 @@ module _ {C : Formula → Type 0} {ws : Formula → List ℕ} {room : ℕ} {body
     told = law.formula-map u (λ f h c. rw (h c) refl);
   }
 
-module _ {room : ℕ} {body : List ℕ} {at : ℕ} {scope : Tuple} {q : ℕ} {all : Bool} where
-  pub gather-closed : {around : Around} {b : Bool} {m : ℕ} {t : List ℕ} {s : ℕ} → s ≤ room + 1
+module _ {body : List ℕ} {at : ℕ} {scope : Tuple} {q : ℕ} {all : Bool} where
+  pub gather-closed : {around : Around} {b : Bool} {m : ℕ} {t : List ℕ} {s : ℕ} → s ≤ length t + 1
       → LeftTold body at scope q all around b m → b ≡ false
-      → GathersLeft around (items scope) room body (scope .count) q at t t s s m
+      → GathersLeft around (items scope) body (scope .count) q at t t s s m
   gather-closed l (unasked h) z = absurd (true≢false z)
   gather-closed l (asked on u) z =
       gather-nothing l on (law.formula-map u (λ f h _. none-left (simplified f (items scope)) (sym z ∙ h)))
 
   -- a test is never left: it is evaluated to know where it ends
   pub gather-compare : (around : Around) {kind : Kind} {test : Test} {b : Bool} {m : ℕ} {t : List ℕ} {s : ℕ}
-      → law.Head body at kind → kind ≡ Compare test → s ≤ room + 1 → LeftTold body at scope q all apart b m
-      → GathersLeft around (items scope) room body (scope .count) q at t t s s m
+      → law.Head body at kind → kind ≡ Compare test → s ≤ length t + 1 → LeftTold body at scope q all apart b m
+      → GathersLeft around (items scope) body (scope .count) q at t t s s m
   unfolding simplified instances
   gather-compare around head e l (unasked h) = absurd (false≢true h)
   gather-compare around head e l (asked on u) = gather-nothing l on (law.formula-compare-as head e u (λ _ _ _ _. refl))
 
   -- what is gathered where nothing decides the formula's connective is gathered where it is free of that around it
   pub gather-free : {around : Around} {b : Bool} {m : ℕ} {t e : List ℕ} {s r next : ℕ} → LeftTold body at scope q all around b m
-      → b ≡ true → GathersLeft (inside all) (items scope) room body (scope .count) q at t e s r next
-      → GathersLeft around (items scope) room body (scope .count) q at t e s r next
+      → b ≡ true → GathersLeft (inside all) (items scope) body (scope .count) q at t e s r next
+      → GathersLeft around (items scope) body (scope .count) q at t e s r next
   gather-free {around} (unasked h) z g =
       gathered g (omega arith) (law.formula-map (g .told)
       (λ f x free. x (λ _. same-connective around all (simplified f (items scope)) h free)))
@@ -162,27 +162,27 @@ module _ {room : ℕ} {body : List ℕ} {at : ℕ} {scope : Tuple} {q : ℕ} {al
       (λ f x _. x .0 (λ _. left-free all (simplified f (items scope)) (sym z ∙ x .1))))
 
 -- ---- the parts of a formula
-module _ {body : List ℕ} {at : ℕ} {kind : Kind} (head : law.Head body at kind) {room : ℕ} (v : List ℕ) {k q : ℕ} where
+module _ {body : List ℕ} {at : ℕ} {kind : Kind} (head : law.Head body at kind) (v : List ℕ) {k q : ℕ} where
   pub gather-join : {all : Bool} {t m e : List ℕ} {s u r i next : ℕ} → kind ≡ Join all
-      → GathersLeft (inside all) v room body k q (at + 1) t m s u i → GathersLeft (inside all) v room body k q i m e u r next
-      → GathersLeft (inside all) v room body k q at t e s r next
+      → GathersLeft (inside all) v body k q (at + 1) t m s u i → GathersLeft (inside all) v body k q i m e u r next
+      → GathersLeft (inside all) v body k q at t e s r next
   unfolding simplified
-  gather-join {all} {t} {s} h a b = record {
+  gather-join {all} {t} {s} h a c = let b = rw (a .kept .size) at c in record {
     on = omega (arith, a .on, b .on);
     few = b .few;
     kept = kept-then (a .kept) (b .kept);
     there = a .there && b .there;
     told = law.formula-joined head h (a .told) (omega arith) (b .told) (λ f g x y free.
         let both = parted all (simplified f v) (simplified g v) (free refl) in
-        added-both room (found-words t (found-of room s)) (words-left (simplified f v)) (words-left (simplified g v))
+        added-both (length t) (found-words t (found-of (length t) s)) (words-left (simplified f v)) (words-left (simplified g v))
         (ap (map word) (both .both) ∙ map-append word (instances (simplified f v)) (instances (simplified g v)))
         (x (λ _. both .first)) (y (λ _. both .second)));
   }
 
   pub gather-quantifier : {all : Bool} {r : ℕ} {t e : List ℕ} {s u next : ℕ} → kind ≡ Quantifier all → q < 4
       → r ≡ getD body (at + 1) 0 → is-range r ≡ true
-      → GathersOver (record { q = q; all = all; from = 0; to = r }) v room body (k + 1) (q + 1) (at + 2) t e s u next
-      → GathersLeft (inside all) v room body k q at t e s u next
+      → GathersOver (record { q = q; all = all; from = 0; to = r }) v body (k + 1) (q + 1) (at + 2) t e s u next
+      → GathersLeft (inside all) v body k q at t e s u next
   unfolding simplified
   gather-quantifier {all} {r} h d byte range g =
       gathered g (omega arith) (law.formula-quantifier head h d byte range (g .told) (λ f x free.
@@ -190,8 +190,8 @@ module _ {body : List ℕ} {at : ℕ} {kind : Kind} (head : law.Head body at kin
       rw (each .1) (rw sub-zero at (x (λ i _ l. each .0 i (omega arith) (omega arith))))))
 
   pub gather-instance : (around : Around) {w : ℕ} {ok : Bool} {t e : List ℕ} {s m next : ℕ} → kind ≡ Instance
-      → InstanceTold (λ f. w ≡ instance-word v f) body k (at + 1) ok next → ok ≡ true → Adds room t e s m w
-      → GathersLeft around v room body k q at t e s m next
+      → InstanceTold (λ f. w ≡ instance-word v f) body k (at + 1) ok next → ok ≡ true → Adds (length t) t e s m w
+      → GathersLeft around v body k q at t e s m next
   unfolding simplified instances leaves add
   gather-instance around {ok} h i z a = record {
     on = omega (arith, law.instance-on i z);
@@ -202,29 +202,29 @@ module _ {body : List ℕ} {at : ℕ} {kind : Kind} (head : law.Head body at kin
   }
 
 -- ---- the values of a stretch
-module _ (stretch : Stretch) (v : List ℕ) {room : ℕ} {body : List ℕ} {k q at : ℕ} where
+module _ (stretch : Stretch) (v : List ℕ) {body : List ℕ} {k q at : ℕ} where
   -- the only value
   pub gather-last : {t e : List ℕ} {s r next : ℕ} → stretch .from < stretch .to → stretch .to ≤ stretch .from + 1
-      → GathersLeft (inside (stretch .all)) (v ++ (stretch .from ∷ [])) room body k q at t e s r next
-      → GathersOver stretch v room body k q at t e s r next
+      → GathersLeft (inside (stretch .all)) (v ++ (stretch .from ∷ [])) body k q at t e s r next
+      → GathersOver stretch v body k q at t e s r next
   gather-last {t} {s} l h g =
       gathered g (omega arith) (law.formula-map (g .told) (λ f x free. x (λ _. free (stretch .from) (omega arith) l) ∙
-      ap (add room (found-words t (found-of room s)))
+      ap (add (length t) (found-words t (found-of (length t) s)))
       (sym (between-one _++_ [] (λ i. words-left (simplified f (v ++ (i ∷ [])))) l h ∙ append-nil _))))
 
   pub gather-halves : {middle : ℕ} {t m e : List ℕ} {s u r i next : ℕ} → stretch .from ≤ middle → middle ≤ stretch .to
-      → GathersOver (record { q = stretch .q; all = stretch .all; from = stretch .from; to = middle }) v room body k q at t m s u
+      → GathersOver (record { q = stretch .q; all = stretch .all; from = stretch .from; to = middle }) v body k q at t m s u
       i
-      → GathersOver (record { q = stretch .q; all = stretch .all; from = middle; to = stretch .to }) v room body k q at m e u r
+      → GathersOver (record { q = stretch .q; all = stretch .all; from = middle; to = stretch .to }) v body k q at m e u r
       next
-      → GathersOver stretch v room body k q at t e s r next
-  gather-halves {t} {s} l h a b = record {
+      → GathersOver stretch v body k q at t e s r next
+  gather-halves {t} {s} l h a c = let b = rw (a .kept .size) at c in record {
     on = b .on;
     few = b .few;
     kept = kept-then (a .kept) (b .kept);
     there = b .there;
     told = law.formula-map (law.formula-both (b .told) (a .told)) (λ f x free.
-        added-both room (found-words t (found-of room s)) _ _
+        added-both (length t) (found-words t (found-of (length t) s)) _ _
         (sym (between-parts _++_ [] (λ a b c. sym (append-assoc a b c)) (λ a. refl)
         (λ i. words-left (simplified f (v ++ (i ∷ [])))) l h))
         (x .1 (λ i p q. free i p (omega arith))) (x .0 (λ i p q. free i (omega arith) q)));

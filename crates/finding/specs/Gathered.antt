@@ -58,10 +58,9 @@ pub data LeftTold (body : List ℕ) (at : ℕ) (scope : Tuple) (q : ℕ) (all : 
 
 -- ---- gathering
 -- at most four of the variables in reach are parameters, and one more is found than there is room, at most
-pub record Gatherable (scope : Tuple) (q room : ℕ) (table : List ℕ) (found : ℕ) : Type 0 where
+pub record Gatherable (scope : Tuple) (q : ℕ) (table : List ℕ) (found : ℕ) : Type 0 where
   pub reach : scope .count ≤ 4 + q
-  pub few : found ≤ room + 1
-  pub lent : room ≤ length table
+  pub few : found ≤ length table + 1
 
 -- s words are found, and then r: those that ws says of the formula at a place are added, where C holds of it
 pub record Gathers (C : Formula → Type 0) (ws : Formula → List ℕ) (room : ℕ) (body : List ℕ) (k q at : ℕ)
@@ -75,13 +74,16 @@ pub record Gathers (C : Formula → Type 0) (ws : Formula → List ℕ) (room : 
       body
       (length body) k q at there next
 
--- the words left in the formula, where it is free of the connective around it
-abbrev pub GathersLeft : Around → List ℕ → ℕ → List ℕ → ℕ → ℕ → ℕ → List ℕ → List ℕ → ℕ → ℕ → ℕ → Type 0
-GathersLeft around v = Gathers (λ f. Free around (simplified f v)) (λ f. words-left (simplified f v))
+-- the words left in the formula, where it is free of the connective around it; the room is the whole table
+abbrev pub GathersLeft : Around → List ℕ → List ℕ → ℕ → ℕ → ℕ → List ℕ → List ℕ → ℕ → ℕ → ℕ → Type 0
+GathersLeft around v body k q at entry =
+    Gathers (λ f. Free around (simplified f v)) (λ f. words-left (simplified f v)) (length entry) body k q at
+    entry
 
 -- those left at each value of a stretch, where no value decides the quantifier
-abbrev pub GathersOver : Stretch → List ℕ → ℕ → List ℕ → ℕ → ℕ → ℕ → List ℕ → List ℕ → ℕ → ℕ → ℕ → Type 0
-GathersOver s v =
+abbrev pub GathersOver : Stretch → List ℕ → List ℕ → ℕ → ℕ → ℕ → List ℕ → List ℕ → ℕ → ℕ → ℕ → Type 0
+GathersOver s v body k q at entry =
     Gathers
     (λ f. (i : ℕ) → s .from ≤ i → i < s .to → absorbs (s .all) (simplified f (v ++ (i ∷ []))) ≡ false)
     (λ f. between _++_ [] (s .from) (s .to) (λ i. words-left (simplified f (v ++ (i ∷ [])))))
+    (length entry) body k q at entry

@@ -22,12 +22,13 @@ pub struct Found {
     pub over: bool,
 }
 
-// Adds a word behind the n found, unless it is there, and gives their number then: one more than the room,
-// where there is none for it.
-fn add_word(table: &mut [u32], room: usize, n: usize, w: u32) -> usize
-    requires { ⌜ (n ≤ room + 1) × (room ≤ length (now table)) ⌝ }
-    ensures { λ r. ⌜ Adds room (now (table .entry)) (now (table .exit)) n r w ⌝ }
+// Adds a word behind the n found, unless it is there, and gives their number then: one more than the table's
+// room, where there is none for it.
+fn add_word(table: &mut [u32], n: usize, w: u32) -> usize
+    requires { ⌜ n ≤ length (now table) + 1 ⌝ }
+    ensures { λ r. ⌜ Adds (length (now (table .entry))) (now (table .entry)) (now (table .exit)) n r w ⌝ }
 {
+    let room = table.len();
     if room < n {
         return n;
     }
@@ -112,12 +113,11 @@ fn gather(
     q: u8,
     around: Around,
     table: &mut [u32],
-    room: usize,
     none: &[u64; 8],
     found: &mut usize,
 ) -> usize
-    requires { ⌜ Gatherable scope q room (now table) (now found) ⌝ }
-    ensures { λ r. ⌜ GathersLeft around (items scope) room (now (body .entry)) (scope .count) q at
+    requires { ⌜ Gatherable scope q (now table) (now found) ⌝ }
+    ensures { λ r. ⌜ GathersLeft around (items scope) (now (body .entry)) (scope .count) q at
         (now (table .entry)) (now (table .exit)) (now (found .entry)) (now (found .exit)) r ⌝ }
 {
     if body.len() <= at {
@@ -141,8 +141,8 @@ fn gather(
                 return o.next;
             }
             let inner = Around { within: true, all };
-            let m = gather(body, next, scope, q, inner, table, room, none, found);
-            gather(body, m, scope, q, inner, table, room, none, found)
+            let m = gather(body, next, scope, q, inner, table, none, found);
+            gather(body, m, scope, q, inner, table, none, found)
         }
         Kind::Quantifier(all) => {
             let o = left_at(body, at, scope, q, all, around, none);
@@ -162,7 +162,7 @@ fn gather(
                 from: 0,
                 to: r,
             };
-            gather_fold(body, at + 2, scope, stretch, table, room, none, found)
+            gather_fold(body, at + 2, scope, stretch, table, none, found)
         }
         Kind::Instance => {
             let i = evaluator::word_at(body, next, scope);
@@ -170,7 +170,7 @@ fn gather(
                 return at;
             }
             let n = *found;
-            let m = add_word(table, room, n, i.word);
+            let m = add_word(table, n, i.word);
             *found = m;
             i.next
         }
@@ -184,13 +184,13 @@ fn gather_fold(
     scope: Tuple,
     stretch: Stretch,
     table: &mut [u32],
-    room: usize,
     none: &[u64; 8],
     found: &mut usize,
 ) -> usize
-    requires { ⌜ Gatherable scope (stretch .q) room (now table) (now found) × Foldable scope stretch ⌝ }
-    ensures { λ r. ⌜ GathersOver stretch (items scope) room (now (body .entry)) (scope .count + 1)
-        (stretch .q + 1) at (now (table .entry)) (now (table .exit)) (now (found .entry)) (now (found .exit)) r ⌝ }
+    requires { ⌜ Gatherable scope (stretch .q) (now table) (now found) × Foldable scope stretch ⌝ }
+    ensures { λ r. ⌜ GathersOver stretch (items scope) (now (body .entry)) (scope .count + 1)
+        (stretch .q + 1) at (now (table .entry)) (now (table .exit)) (now (found .entry)) (now (found .exit))
+        r ⌝ }
 {
     let q = stretch.q;
     let all = stretch.all;
@@ -200,7 +200,7 @@ fn gather_fold(
     if half == 0 {
         let inner = formulas::push(scope, from);
         let around = Around { within: true, all };
-        return gather(body, at, inner, q + 1, around, table, room, none, found);
+        return gather(body, at, inner, q + 1, around, table, none, found);
     }
     let middle = from + half;
     let first = Stretch {
@@ -209,14 +209,14 @@ fn gather_fold(
         from,
         to: middle,
     };
-    gather_fold(body, at, scope, first, table, room, none, found);
+    gather_fold(body, at, scope, first, table, none, found);
     let second = Stretch {
         q,
         all,
         from: middle,
         to,
     };
-    gather_fold(body, at, scope, second, table, room, none, found)
+    gather_fold(body, at, scope, second, table, none, found)
 }
 
 // Adds the instances that are left in the right side of the instance with the word w to the n words found,
@@ -226,12 +226,11 @@ fn gather_side(
     equations: [Equation; 8],
     w: u32,
     table: &mut [u32],
-    room: usize,
     n: usize,
 ) -> usize
-    requires { ⌜ (n ≤ room) × (room ≤ length (now table)) ⌝ }
-    ensures { λ r. ⌜ SideGathers (now (bodies .entry)) equations w room (now (table .entry))
-        (now (table .exit)) n r ⌝ }
+    requires { ⌜ n ≤ length (now table) ⌝ }
+    ensures { λ r. ⌜ SideGathers (now (bodies .entry)) equations w (length (now (table .entry)))
+        (now (table .entry)) (now (table .exit)) n r ⌝ }
 {
     let e = words::equation_of(w);
     if 8 <= e {
@@ -246,23 +245,17 @@ fn gather_side(
     };
     let none = truth::none();
     let mut found = n;
-    gather(body, 0, scope, 0, around, table, room, &none, &mut found);
+    gather(body, 0, scope, 0, around, table, &none, &mut found);
     found
 }
 
-// Finds the reached instances from the one with the word `start`, in order, at most `most` of them, and as
-// far as there is room in the table.
-pub fn find(
-    bodies: &[u8],
-    equations: [Equation; 8],
-    start: u32,
-    table: &mut [u32],
-    most: usize,
-) -> Found
-    ensures { λ r. ⌜ Finds (now (bodies .entry)) equations start (min (length (now (table .entry))) most)
+// Finds the reached instances from the one with the word `start`, in order, as far as there is room in the
+// table.
+fn find_in(bodies: &[u8], equations: [Equation; 8], start: u32, table: &mut [u32]) -> Found
+    ensures { λ r. ⌜ Finds (now (bodies .entry)) equations start (length (now (table .entry)))
         (now (table .entry)) (now (table .exit)) r ⌝ }
 {
-    let room = basics::smaller(table.len(), most);
+    let room = table.len();
     if room == 0 {
         return Found {
             count: 0,
@@ -274,7 +267,7 @@ pub fn find(
     let mut i = 0;
     while i < found {
         let w = table[i];
-        let n = gather_side(bodies, equations, w, table, room, found);
+        let n = gather_side(bodies, equations, w, table, found);
         if room < n {
             return Found {
                 count: room,
@@ -288,4 +281,19 @@ pub fn find(
         count: found,
         over: false,
     }
+}
+
+// The same, and at most `most` of them.
+pub fn find(
+    bodies: &[u8],
+    equations: [Equation; 8],
+    start: u32,
+    table: &mut [u32],
+    most: usize,
+) -> Found
+    ensures { λ r. ⌜ Finds (now (bodies .entry)) equations start (min (length (now (table .entry))) most)
+        (now (table .entry)) (now (table .exit)) r ⌝ }
+{
+    let room = basics::smaller(table.len(), most);
+    find_in(bodies, equations, start, &mut table[..room])
 }

@@ -76,7 +76,7 @@ module _ (t : ℕ) where
       let k = arm .before .before in
       let p = start k .pre in (
         omega (arith, g .on, head k .inside, p .0),
-        record { reach = p .1 .reach; few = g .few; lent = omega (arith, p .1 .lent, g .kept .size) },
+        record { reach = p .1 .reach; few = omega (arith, g .few, g .kept .size) },
       )
 
   a-join : gather.Need-returns-10 (gather-calls t) (gather-at t) gather-post
@@ -146,11 +146,6 @@ module _ (t : ℕ) where
       (law.formula-instance (head k) (arm .enum-told4 .given .1) (word-told (omega arith) (c .before .before .word-at .ensures)))
       (not-true _ (c .if6 .taken)))
 
-  word-added : gather.Need-add-word-requires (gather-calls t) (gather-at t) gather-post
-  word-added c κs =
-      let p = start (c .before .before .before .before .before .before .before) .pre .1 in
-      (p .few, p .lent)
-
   an-instance : gather.Need-returns-12 (gather-calls t) (gather-at t) gather-post
   an-instance c =
       let found = c .before .before .before .before .before in
@@ -175,7 +170,7 @@ module _ (t : ℕ) where
   one-value c κs =
       let p = c .before .before .before .before .before .before .pre .1 in
       let more = pushed (c .before .before) .0 in
-      (omega arith, record { reach = omega (arith, more, p .0 .reach); few = p .0 .few; lent = p .0 .lent })
+      (omega arith, record { reach = omega (arith, more, p .0 .reach); few = p .0 .few })
 
   the-last : fold.Need-returns (fold-calls t) (fold-at t) fold-post
   the-last c =
@@ -197,7 +192,7 @@ module _ (t : ℕ) where
       let p = first .before .before .before .before .before .before .pre .1 in (
         omega arith,
         (
-          record { reach = p .0 .reach; few = g .few; lent = omega (arith, p .0 .lent, g .kept .size) },
+          record { reach = p .0 .reach; few = omega (arith, g .few, g .kept .size) },
           record { some = omega arith; few = p .1 .few; reach = p .1 .reach },
         ),
       )
@@ -223,8 +218,9 @@ pub +gather+gather-fold-spec : {M : Type 1} → cycle.statement M
     (λ c κs. start t (c .before .before .before) .pre .1 .reach) (join-decided t) (first-operand t) (second-operand t)
     (λ c. search needs) (λ c κs. start t (c .before .before .before) .pre .1 .reach) (quantifier-decided t) (a-fifth t)
     (λ c κs. search needs) (λ c κs. search needs) (no-range t) (λ c. omega arith) (some-values t) (λ c. search needs)
-    (λ c κs. search needs) (no-instance t) (word-added t) (no-formula t) (a-constant t) (a-comparison t) (after-both t)
-    (a-join t) (λ c. c .before .before .gather-fold .ensures .kept .size) (a-quantifier t)
+    (λ c κs. search needs) (no-instance t)
+    (λ c κs. start t (c .before .before .before .before .before .before .before) .pre .1 .few) (no-formula t) (a-constant t)
+    (a-comparison t) (after-both t) (a-join t) (λ c. c .before .before .gather-fold .ensures .kept .size) (a-quantifier t)
     (λ c. c .before .before .add-word .ensures .kept .size) (an-instance t))
     (λ t. fold.spec (fold-calls t) (fold-at t) fold-post
     (λ c. omega (arith, c .before .before .pre .1 .1 .some)) (λ c κs. search needs) (λ c. omega arith) (one-value t)

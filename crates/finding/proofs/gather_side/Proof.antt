@@ -24,7 +24,7 @@ past c =
 gather-requires : tie.Need-gather-requires
 gather-requires c κs =
     let count = ap (λ (x : Tuple). x .count) (c .before .before .before .before .arguments-of .ensures) ∙ argument-count _ _ in
-    record { reach = omega arith; few = omega arith; lent = omega arith }
+    record { reach = omega arith; few = omega arith }
 
 gathered : tie.Need-returns-2
 gathered c =
