@@ -66,7 +66,8 @@ module _ (bodies : List ℕ) (equations : List Equation) (w : ℕ) {e : ℕ} (is
   pub side-gathers : {next n r : ℕ} {body : List ℕ} {scope : Tuple} {t t′ : List ℕ}
       → body ≡ take (equation-at equations e .length) (drop (equation-number w * 256) bodies)
       → scope ≡ argument-tuple w (equation-at equations e .k)
-      → GathersLeft apart (items scope) body (scope .count) 0 0 t t′ n r next → SideGathers bodies equations w (length t) t t′ n r
+      → GathersLeft (apart 0) (items scope) body (scope .count) 0 t t′ n r next
+      → SideGathers bodies equations w (length t) t t′ n r
   unfolding parsed-in body-in
   side-gathers {body = body} {scope = scope} b s g = record {
     few = g .few;

@@ -6,8 +6,8 @@ ghost use Prim.Native.Nat.{_+_, _≤_, _<_, min};
 ghost use lib.ListN.{length};
 ghost use Rattle.evaluator.specs.Folds.{Foldable};
 ghost use Rattle.formulas.specs.Tuples.{items};
-ghost use Rattle.finding.specs.Gathered.{is-open, LeftTold};
-ghost use Rattle.finding.specs.Gathered.{Gatherable, GathersLeft, GathersOver};
+ghost use Rattle.finding.specs.Gathered.{apart, inside, stretch-of, is-open, LeftTold, RangeTold};
+ghost use Rattle.finding.specs.Gathered.{Gatherable, GathersInstance, GathersLeft, GathersOver};
 ghost use Rattle.finding.specs.Kept.{Adds};
 ghost use Rattle.finding.specs.Found.{SideGathers, Finds};
 use evaluator::Stretch;
@@ -44,8 +44,10 @@ fn add_word(table: &mut [u32], n: usize, w: u32) -> usize
 
 // ---- gathering
 
-// The connective around a formula: where `within`, there is one that nothing decides, and `all` says which.
+// What stands around a formula: q quantifiers and, where `within`, a connective that nothing decides; `all`
+// says which.
 struct Around {
+    q: u8,
     within: bool,
     all: bool,
 }
@@ -54,6 +56,35 @@ struct Around {
 struct LeftAt {
     left: bool,
     next: usize,
+}
+
+// Under q quantifiers, and within no connective.
+fn apart(q: u8) -> Around
+    ensures { λ r. ⌜ r ≡ apart q ⌝ }
+{
+    Around {
+        q,
+        within: false,
+        all: false,
+    }
+}
+
+// Under q quantifiers, and within the connective that `all` says.
+fn inside(q: u8, all: bool) -> Around
+    ensures { λ r. ⌜ r ≡ inside q all ⌝ }
+{
+    Around {
+        q,
+        within: true,
+        all,
+    }
+}
+
+// The values of a quantified variable from `from` on and below `to`.
+fn stretch_of(q: u8, all: bool, from: u8, to: u8) -> Stretch
+    ensures { λ r. ⌜ r ≡ stretch-of q all from to ⌝ }
+{
+    Stretch { q, all, from, to }
 }
 
 fn is_open(value: Value) -> bool
@@ -74,13 +105,12 @@ fn left_at(
     body: &[u8],
     at: usize,
     scope: Tuple,
-    q: u8,
     all: bool,
     around: Around,
     none: &[u64; 8],
 ) -> LeftAt
-    requires { ⌜ scope .count ≤ 4 + q ⌝ }
-    ensures { λ r. ⌜ LeftTold (now (body .entry)) at scope q all around (r .left) (r .next) ⌝ }
+    requires { ⌜ scope .count ≤ 4 + around .q ⌝ }
+    ensures { λ r. ⌜ LeftTold (now (body .entry)) at scope all around (r .left) (r .next) ⌝ }
 {
     if basics::and(around.within, all == around.all) {
         return LeftAt {
@@ -89,7 +119,7 @@ fn left_at(
         };
     }
     let table = [0u32; 1];
-    let v = evaluator::value_at(body, at, scope, q, &table[..0], none);
+    let v = evaluator::value_at(body, at, scope, around.q, &table[..0], none);
     let value = v.value;
     if v.ok {
         LeftAt {
@@ -104,76 +134,81 @@ fn left_at(
     }
 }
 
+// The range that stands at a place, for a quantifier with q around it; 0 where the byte is no range, or where
+// no further quantifier may be.
+fn range_at(body: &[u8], at: usize, q: u8) -> u8
+    ensures { λ r. ⌜ RangeTold (now (body .entry)) at q r ⌝ }
+{
+    if 4 <= q {
+        return 0;
+    }
+    let r = basics::element(body, at);
+    if formulas::is_range(r) { r } else { 0 }
+}
+
+// Adds the instance at a place to the words found, and gives the place after it.
+fn gather_instance(
+    body: &[u8],
+    at: usize,
+    scope: Tuple,
+    table: &mut [u32],
+    found: &mut usize,
+) -> usize
+    requires { ⌜ (at < length (now body)) × (now found ≤ length (now table) + 1) ⌝ }
+    ensures { λ r. ⌜ GathersInstance (now (body .entry)) at scope (now (table .entry)) (now (found .entry))
+        (now (table .exit)) (now (found .exit)) r ⌝ }
+{
+    let i = evaluator::word_at(body, at + 1, scope);
+    if !i.ok {
+        return at;
+    }
+    let n = *found;
+    *found = add_word(table, n, i.word);
+    i.next
+}
+
 // Adds the instances that are left in the formula at a place to the words found, and gives the place after
 // it.
 fn gather(
     body: &[u8],
     at: usize,
     scope: Tuple,
-    q: u8,
     around: Around,
     table: &mut [u32],
     none: &[u64; 8],
     found: &mut usize,
 ) -> usize
-    requires { ⌜ Gatherable scope q (now table) (now found) ⌝ }
-    ensures { λ r. ⌜ GathersLeft around (items scope) (now (body .entry)) (scope .count) q at
+    requires { ⌜ Gatherable scope (around .q) (now table) (now found) ⌝ }
+    ensures { λ r. ⌜ GathersLeft around (items scope) (now (body .entry)) (scope .count) at
         (now (table .entry)) (now (table .exit)) (now (found .entry)) (now (found .exit)) r ⌝ }
 {
     if body.len() <= at {
         return at;
     }
-    let next = at + 1;
     let kind = formulas::kind_of(basics::element(body, at));
     match kind {
         Kind::NoFormula => at,
-        Kind::Constant(_) => next,
-        Kind::Compare(_) => {
-            let apart = Around {
-                within: false,
-                all: false,
-            };
-            left_at(body, at, scope, q, false, apart, none).next
-        }
+        Kind::Constant(_) => at + 1,
+        Kind::Compare(_) => left_at(body, at, scope, false, apart(around.q), none).next,
         Kind::Join(all) => {
-            let o = left_at(body, at, scope, q, all, around, none);
+            let o = left_at(body, at, scope, all, around, none);
             if !o.left {
                 return o.next;
             }
-            let inner = Around { within: true, all };
-            let m = gather(body, next, scope, q, inner, table, none, found);
-            gather(body, m, scope, q, inner, table, none, found)
+            let inner = inside(around.q, all);
+            let m = gather(body, at + 1, scope, inner, table, none, found);
+            gather(body, m, scope, inner, table, none, found)
         }
         Kind::Quantifier(all) => {
-            let o = left_at(body, at, scope, q, all, around, none);
-            if !o.left {
+            let o = left_at(body, at, scope, all, around, none);
+            let to = range_at(body, at + 1, around.q);
+            if !basics::and(o.left, 0 < to) {
                 return o.next;
             }
-            if 4 <= q {
-                return at;
-            }
-            let r = basics::element(body, next);
-            if !formulas::is_range(r) {
-                return at;
-            }
-            let stretch = Stretch {
-                q,
-                all,
-                from: 0,
-                to: r,
-            };
-            gather_fold(body, at + 2, scope, stretch, table, none, found)
+            let values = stretch_of(around.q, all, 0, to);
+            gather_fold(body, at + 2, scope, values, table, none, found)
         }
-        Kind::Instance => {
-            let i = evaluator::word_at(body, next, scope);
-            if !i.ok {
-                return at;
-            }
-            let n = *found;
-            let m = add_word(table, n, i.word);
-            *found = m;
-            i.next
-        }
+        Kind::Instance => gather_instance(body, at, scope, table, found),
     }
 }
 
@@ -199,23 +234,12 @@ fn gather_fold(
     let half = (to - from) / 2;
     if half == 0 {
         let inner = formulas::push(scope, from);
-        let around = Around { within: true, all };
-        return gather(body, at, inner, q + 1, around, table, none, found);
+        return gather(body, at, inner, inside(q + 1, all), table, none, found);
     }
     let middle = from + half;
-    let first = Stretch {
-        q,
-        all,
-        from,
-        to: middle,
-    };
+    let first = stretch_of(q, all, from, middle);
     gather_fold(body, at, scope, first, table, none, found);
-    let second = Stretch {
-        q,
-        all,
-        from: middle,
-        to,
-    };
+    let second = stretch_of(q, all, middle, to);
     gather_fold(body, at, scope, second, table, none, found)
 }
 
@@ -239,13 +263,9 @@ fn gather_side(
     let equation = equations[e];
     let body = instances::body_of(bodies, w, equation.length);
     let scope = words::arguments_of(w, equation.k);
-    let around = Around {
-        within: false,
-        all: false,
-    };
     let none = truth::none();
     let mut found = n;
-    gather(body, 0, scope, 0, around, table, &none, &mut found);
+    gather(body, 0, scope, apart(0), table, &none, &mut found);
     found
 }
 
