@@ -38,7 +38,7 @@ use Rattle.finding.proofs.FoundWordsLaws.{add-fresh}
 use Rattle.finding.specs.Kept.{found-of, found-words, found-fits, found-over}
 use Rattle.finding.specs.Gathered.{words-left, apart, GathersLeft}
 use Rattle.finding.specs.Found.{left-in, SideGathers, Searchable, FoundIn}
-use Rattle.finding.proofs.Gathering.{drop-more, kept-same}
+use Rattle.finding.proofs.GatheringLaws.{drop-more, kept-same}
 
 -- ---- the words of a beginning
 take-beginning : (n : ℕ) (l k : List Instance) → Begins l k → n ≤ length k → take n (map word k) ≡ take n (map word l)

@@ -18,7 +18,7 @@ use Rattle.evaluator.specs.declared.Stretch.{Stretch}
 use Rattle.evaluator.specs.declared.Value.{Value}
 use Rattle.evaluator.specs.declared.Value.the-variants.{False, True, Open}
 use Rattle.evaluator.specs.Replies.{instance-word}
-use Rattle.finding.specs.declared.Around.{Around}
+use Rattle.finding.specs.declared.gathering.Around.{Around}
 use Rattle.finding.specs.FoundWords.{add}
 use Rattle.finding.specs.Kept.{found-of, found-words, Kept, Adds}
 use Rattle.finding.specs.Absorbed.{absorbs}

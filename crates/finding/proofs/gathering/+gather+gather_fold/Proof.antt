@@ -14,12 +14,12 @@ use Rattle.meaning.specs.Reach.{instances}
 use Rattle.formulas.specs.Codes.{kind-of}
 use Rattle.formulas.specs.Tuples.{items}
 use Rattle.formulas.proofs.ByKind as law
-use Rattle.finding.proofs.Gathering.{gather-nothing, gather-closed, gather-compare, gather-free}
-use Rattle.finding.proofs.Gathering.{both-hold, range-few, quantifier-closed}
-use Rattle.finding.proofs.Gathering.{gather-join, gather-quantifier, gather-instance, gather-last, gather-halves}
-use Rattle.finding.proofs.+gather+gather_fold as cycle
-use Rattle.finding.proofs.+gather+gather_fold.Lts-gather as gather
-use Rattle.finding.proofs.+gather+gather_fold.Lts-gather_fold as fold
+use Rattle.finding.proofs.GatheringLaws.{gather-nothing, gather-closed, gather-compare, gather-free}
+use Rattle.finding.proofs.GatheringLaws.{both-hold, range-few, quantifier-closed}
+use Rattle.finding.proofs.GatheringLaws.{gather-join, gather-quantifier, gather-instance, gather-last, gather-halves}
+use Rattle.finding.proofs.gathering.+gather+gather_fold as cycle
+use Rattle.finding.proofs.gathering.+gather+gather_fold.Lts-gather as gather
+use Rattle.finding.proofs.gathering.+gather+gather_fold.Lts-gather_fold as fold
 
 -- ---- `gather`
 module _ (t : ℕ) where

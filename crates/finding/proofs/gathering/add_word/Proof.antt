@@ -5,8 +5,8 @@ use native.Mathlib.Omega.{arith}
 use mathlib.Core.Path.{sym}
 use lib.Seq.{length-take-le}
 use Rattle.finding.proofs.Adding.{adds-full, adds-there, adds-past, adds-behind}
-use Rattle.finding.proofs.add_word.Statement.{statement}
-use Rattle.finding.proofs.add_word.Tie as tie
+use Rattle.finding.proofs.gathering.add_word.Statement.{statement}
+use Rattle.finding.proofs.gathering.add_word.Tie as tie
 
 returns : tie.Need-returns
 returns c =

@@ -5,8 +5,8 @@ use borrow.Author.Needs.{needs}
 use borrow.Author.Tests.{not-true, not-false}
 use Rattle.evaluator.proofs.Replies.{word-told}
 use Rattle.finding.specs.Gathered.{unread, read}
-use Rattle.finding.proofs.gather_instance.Statement.{statement}
-use Rattle.finding.proofs.gather_instance.Tie as tie
+use Rattle.finding.proofs.gathering.gather_instance.Statement.{statement}
+use Rattle.finding.proofs.gathering.gather_instance.Tie as tie
 
 no-word : tie.Need-returns
 no-word c = unread (word-told (omega arith) (c .before .before .word-at .ensures)) (not-true _ (c .if1 .taken))

@@ -31,7 +31,7 @@ use Rattle.evaluator.specs.Values.{value-in}
 use Rattle.evaluator.specs.Replies.{ValueReply}
 use Rattle.evaluator.proofs.Replies.{value-told}
 use Rattle.evaluator.proofs.AsTruth.{told, open-everywhere}
-use Rattle.finding.specs.declared.Around.{Around}
+use Rattle.finding.specs.declared.gathering.Around.{Around}
 use Rattle.finding.specs.declared.Found.{Found}
 use Rattle.finding.specs.FoundWords.{FoundWords, add}
 use Rattle.finding.proofs.FoundWordsLaws.{add-append}

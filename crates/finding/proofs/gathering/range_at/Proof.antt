@@ -4,8 +4,8 @@ use mathlib.Core.Path.{sym, ap, _∙_}
 use borrow.Author.Needs.{needs}
 use Rattle.meaning.specs.Ranges.{is-range}
 use Rattle.finding.specs.Gathered.{a-fifth, no-range, a-range}
-use Rattle.finding.proofs.range_at.Statement.{statement}
-use Rattle.finding.proofs.range_at.Tie as tie
+use Rattle.finding.proofs.gathering.range_at.Statement.{statement}
+use Rattle.finding.proofs.gathering.range_at.Tie as tie
 
 ranged : tie.Need-returns-2
 ranged c =
