@@ -124,8 +124,7 @@ module _ {body : List ℕ} {at : ℕ} {scope : Tuple} {all : Bool} {around : Aro
 gathered : {C D : Formula → Type 0} {ws us : Formula → List ℕ} {room : ℕ} {body : List ℕ} {k q at k′ q′ at′ : ℕ} {t e : List ℕ}
     {s r next : ℕ} {ok : Bool} → Gathers C ws room body k q at t e s r next → at′ ≤ at
     → FormulaTold (λ f. D f → found-words e (found-of room r) ≡ add room (found-words t (found-of room s)) (us f)) body
-    (length body)
-    k′ q′ at′ ok next
+    (length body) k′ q′ at′ ok next
     → Gathers D us room body k′ q′ at′ t e s r next
 gathered {ok} g l u = record { on = omega (arith, g .on); few = g .few; kept = g .kept; there = ok; told = u }
 
@@ -219,7 +218,7 @@ module _ {body : List ℕ} {at : ℕ} {kind : Kind} (head : law.Head body at kin
 
   pub gather-quantifier : {q : ℕ} {all : Bool} {r : ℕ} {t e : List ℕ} {s u next : ℕ} {values : Stretch} → kind ≡ Quantifier all
       → RangeTold body (at + 1) q r → 0 < r → values ≡ stretch-of q all 0 r
-      → GathersOver values v body (k + 1) (values .q + 1) (at + 2) t e s u next
+      → GathersOver values v body (k + 1) (at + 2) t e s u next
       → GathersLeft (inside q all) v body k at t e s u next
   unfolding simplified
   gather-quantifier h (a-fifth d) l e over = absurd (omega arith)
@@ -245,20 +244,20 @@ gather-instance around head h l (read {ok} i z a) = record {
 }
 
 -- ---- the values of a stretch
-module _ (stretch : Stretch) (v : List ℕ) {body : List ℕ} {k q at : ℕ} where
+module _ (stretch : Stretch) (v : List ℕ) {body : List ℕ} {k at : ℕ} where
   -- the only value
   pub gather-last : {t e : List ℕ} {s r next : ℕ} → stretch .from < stretch .to → stretch .to ≤ stretch .from + 1
-      → GathersLeft (inside q (stretch .all)) (v ++ (stretch .from ∷ [])) body k at t e s r next
-      → GathersOver stretch v body k q at t e s r next
+      → GathersLeft (inside (stretch .q + 1) (stretch .all)) (v ++ (stretch .from ∷ [])) body k at t e s r next
+      → GathersOver stretch v body k at t e s r next
   gather-last {t} {s} l h g =
       gathered g (omega arith) (law.formula-map (g .told) (λ f x free. x (λ _. free (stretch .from) (omega arith) l) ∙
       ap (add (length t) (found-words t (found-of (length t) s)))
       (sym (between-one _++_ [] (λ i. words-left (simplified f (v ++ (i ∷ [])))) l h ∙ append-nil _))))
 
   pub gather-halves : {middle : ℕ} {t m e : List ℕ} {s u r i next : ℕ} → stretch .from ≤ middle → middle ≤ stretch .to
-      → GathersOver (stretch-of (stretch .q) (stretch .all) (stretch .from) middle) v body k q at t m s u i
-      → GathersOver (stretch-of (stretch .q) (stretch .all) middle (stretch .to)) v body k q at m e u r next
-      → GathersOver stretch v body k q at t e s r next
+      → GathersOver (stretch-of (stretch .q) (stretch .all) (stretch .from) middle) v body k at t m s u i
+      → GathersOver (stretch-of (stretch .q) (stretch .all) middle (stretch .to)) v body k at m e u r next
+      → GathersOver stretch v body k at t e s r next
   gather-halves {t} {s} l h a c = let b = rw (a .kept .size) at c in record {
     on = b .on;
     few = b .few;

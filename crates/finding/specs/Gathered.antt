@@ -34,6 +34,7 @@ inside q all = record { q = q; within = true; all = all }
 abbrev pub apart : ℕ → Around
 apart q = record { q = q; within = false; all = false }
 
+-- the values of a quantified variable
 abbrev pub stretch-of : ℕ → Bool → ℕ → ℕ → Stretch
 stretch-of q all from to = record { q = q; all = all; from = from; to = to }
 
@@ -61,7 +62,7 @@ pub data LeftTold (body : List ℕ) (at : ℕ) (scope : Tuple) (all : Bool) (aro
       → FormulaTold (λ f. left ≡ is-left (simplified f (items scope))) body (length body) (scope .count)
       (around .q) at ok next → LeftTold body at scope all around left next
 
--- ---- the range of a quantifier: what stands at a place, where one more quantifier may be there
+-- ---- the range of a quantifier: the byte at a place, with q quantifiers around; 0 where there is none
 pub data RangeTold (body : List ℕ) (at q : ℕ) : ℕ → Type 0 where
   a-fifth : 4 ≤ q → RangeTold body at q 0
   no-range : q < 4 → is-range (getD body at 0) ≡ false → RangeTold body at q 0
@@ -82,8 +83,7 @@ pub record Gathers (C : Formula → Type 0) (ws : Formula → List ℕ) (room : 
   pub there : Bool
   pub told : FormulaTold
       (λ f. C f → found-words exit (found-of room r) ≡ add room (found-words entry (found-of room s)) (ws f))
-      body
-      (length body) k q at there next
+      body (length body) k q at there next
 
 -- w is the word of the instance whose code stands at a place
 abbrev pub InstanceWord : List ℕ → ℕ → Tuple → ℕ → Bool → ℕ → Type 0
@@ -105,9 +105,9 @@ GathersLeft around v body k at entry =
     (around .q) at entry
 
 -- those left at each value of a stretch, where no value decides the quantifier
-abbrev pub GathersOver : Stretch → List ℕ → List ℕ → ℕ → ℕ → ℕ → List ℕ → List ℕ → ℕ → ℕ → ℕ → Type 0
-GathersOver s v body k q at entry =
+abbrev pub GathersOver : Stretch → List ℕ → List ℕ → ℕ → ℕ → List ℕ → List ℕ → ℕ → ℕ → ℕ → Type 0
+GathersOver s v body k at entry =
     Gathers
     (λ f. (i : ℕ) → s .from ≤ i → i < s .to → absorbs (s .all) (simplified f (v ++ (i ∷ []))) ≡ false)
     (λ f. between _++_ [] (s .from) (s .to) (λ i. words-left (simplified f (v ++ (i ∷ [])))))
-    (length entry) body k q at entry
+    (length entry) body k (s .q + 1) at entry

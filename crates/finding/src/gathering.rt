@@ -212,9 +212,8 @@ fn gather_fold(
     found: &mut usize,
 ) -> usize
     requires { ⌜ Gatherable scope (stretch .q) (now table) (now found) × Foldable scope stretch ⌝ }
-    ensures { λ r. ⌜ GathersOver stretch (items scope) (now (body .entry)) (scope .count + 1)
-        (stretch .q + 1) at (now (table .entry)) (now (table .exit)) (now (found .entry)) (now (found .exit))
-        r ⌝ }
+    ensures { λ r. ⌜ GathersOver stretch (items scope) (now (body .entry)) (scope .count + 1) at
+        (now (table .entry)) (now (table .exit)) (now (found .entry)) (now (found .exit)) r ⌝ }
 {
     let q = stretch.q;
     let all = stretch.all;
