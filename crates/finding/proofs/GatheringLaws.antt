@@ -114,7 +114,8 @@ told-is-open (left l) = refl
 module _ {body : List ℕ} {at : ℕ} {scope : Tuple} {all : Bool} {around : Around} (set : ℕ → Bool) {r : Valued}
     (reach : scope .count ≤ 4 + around .q) (v : ValueReply (value-in [] set) body at scope (around .q) r) where
   pub left-valued : {b : Bool} → r .ok ≡ true → b ≡ is-open (r .value) → LeftTold body at scope all around b (r .next)
-  left-valued z h = asked (v .on z) (law.formula-map (value-told reach v)
+  left-valued z h = asked {next = r .next} (omega (arith, law.formula-on (value-told reach v) z))
+      (law.formula-map (value-told reach v)
       (λ f x. h ∙ ap is-open (x ∙ open-everywhere f set (items scope)) ∙ told-is-open (simplified f (items scope))))
 
   pub left-unread : r .ok ≡ false → LeftTold body at scope all around false at
