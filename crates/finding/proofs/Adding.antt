@@ -14,7 +14,10 @@ use Rattle.finding.specs.FoundWords.{FoundWords, has-word, add-one}
 use Rattle.finding.proofs.FoundWordsLaws.{add-known, add-new, add-last}
 use Rattle.finding.specs.Kept.{found-of, found-words, Kept, Adds, found-fits, found-over}
 
-module _ (room : ℕ) (t : List ℕ) (n w : ℕ) (few : n ≤ room + 1) (lent : room ≤ length t) where
+module _ (t : List ℕ) (n w : ℕ) (few : n ≤ length t + 1) where
+  abbrev room : ℕ
+  room = length t
+
   stays : {r : ℕ} → n ≤ r → Kept room t t (found-of room n) (found-of room r)
   stays h = record { more = omega arith; within = omega arith; rest = refl; size = refl }
 

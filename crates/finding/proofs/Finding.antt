@@ -5,10 +5,10 @@ use Prim.Native.Nat.{ℕ, _+_, _*_, _≤_, _<_, min}
 use native.Mathlib.Omega.{arith}
 use mathlib.Core.Path.{_≡_, refl, sym, ap, ap₂, subst, _∙_}
 use mathlib.Core.Bool.{Bool, true, false, false≢true}
-use mathlib.Core.List.{List, [], _∷_, _++_, map, map-append, append-nil}
-use lib.ListN.{length, take, drop, getD, set, length-append, length-set, length-map, take-append-drop}
+use mathlib.Core.List.{List, [], _∷_, _++_, map, map-append, append-nil, append-assoc}
+use lib.ListN.{length, take, drop, getD, set, length-append, length-set, length-map, length-take, take-append-drop}
 use lib.ListN.{List·getD-map, List·getD-eq-default}
-use lib.Seq.{take-suc-set, drop-set-lt, getD-take, getD-at, take-all, take-append-le, length-take-le}
+use lib.Seq.{take-suc-set, drop-set-lt, getD-take, getD-at, take-all, take-append-le, drop-append-le, length-take-le}
 use borrow.Author.Tests.{lt-ltb, le-ltb, ltb-true, ltb-false}
 use Rattle.meaning.specs.Logic.{Is, never}
 use Rattle.meaning.specs.Members.{mem-right, mem-head}
@@ -38,7 +38,7 @@ use Rattle.finding.proofs.FoundWordsLaws.{add-fresh}
 use Rattle.finding.specs.Kept.{found-of, found-words, found-fits, found-over}
 use Rattle.finding.specs.Gathered.{words-left, apart, GathersLeft}
 use Rattle.finding.specs.Found.{left-in, SideGathers, Searchable, FoundIn}
-use Rattle.finding.proofs.Gathering.{drop-more, kept-same}
+use Rattle.finding.proofs.GatheringLaws.{drop-more, kept-same}
 
 -- ---- the words of a beginning
 take-beginning : (n : ℕ) (l k : List Instance) → Begins l k → n ≤ length k → take n (map word k) ≡ take n (map word l)
@@ -63,10 +63,11 @@ module _ (bodies : List ℕ) (equations : List Equation) (w : ℕ) {e : ℕ} (is
   }
 
   -- it is gathered from its body's first byte on
-  pub side-gathers : {room next n r : ℕ} {body : List ℕ} {scope : Tuple} {t t′ : List ℕ}
+  pub side-gathers : {next n r : ℕ} {body : List ℕ} {scope : Tuple} {t t′ : List ℕ}
       → body ≡ take (equation-at equations e .length) (drop (equation-number w * 256) bodies)
       → scope ≡ argument-tuple w (equation-at equations e .k)
-      → GathersLeft apart (items scope) room body (scope .count) 0 0 t t′ n r next → SideGathers bodies equations w room t t′ n r
+      → GathersLeft (apart 0) (items scope) body (scope .count) 0 t t′ n r next
+      → SideGathers bodies equations w (length t) t t′ n r
   unfolding parsed-in body-in
   side-gathers {body = body} {scope = scope} b s g = record {
     few = g .few;
@@ -94,13 +95,19 @@ pub record Searching (bodies : List ℕ) (equations : List Equation) (start room
     : Type 0 where
   pub some : 0 < n
   pub within : n ≤ room
-  pub lent : room ≤ length t₀
+  pub lent : room ≡ length t₀
   pub rest : drop n t ≡ drop n t₀
   pub size : length t ≡ length t₀
   pub stage : (count : ℕ) (first : Instance) → Searchable bodies equations start count first
       → AtStage (model-in bodies equations count) first t n i
 
-pub search-starts : {bodies : List ℕ} {equations : List Equation} {start room : ℕ} (t : List ℕ) → 0 < room → room ≤ length t
+-- what is gathered on the way has the search's room
+in-room : {bodies : List ℕ} {equations : List Equation} {start w room : ℕ} {t₀ t t′ : List ℕ} {n i r : ℕ}
+    → Searching bodies equations start room t₀ t n i → SideGathers bodies equations w (length t) t t′ n r
+    → SideGathers bodies equations w room t t′ n r
+in-room s g = rw (s .size ∙ sym (s .lent)) at g
+
+pub search-starts : {bodies : List ℕ} {equations : List Equation} {start room : ℕ} (t : List ℕ) → 0 < room → room ≡ length t
     → Searching bodies equations start room (set t 0 start) (set t 0 start) 1 0
 search-starts {start = start} t p q = record {
   some = omega arith;
@@ -123,6 +130,23 @@ pub from-entry : {model : Model} {first : Instance} {room : ℕ} {t₀ t : List 
     → FoundIn model first room (set t₀ 0 w) t r → FoundIn model first room t₀ t r
 from-entry {t₀ = t₀} {r = r} w h f =
     record { over = f .over; count = f .count; table = rw (drop-set-lt (r .count) t₀ 0 w h) at (f .table) }
+
+-- what is found in the first words of a table is found in the whole, with as much room
+pub in-whole : {model : Model} {first : Instance} {room : ℕ} {t e : List ℕ} {r : Found} → room ≤ length t
+    → FoundIn model first (length (take room t)) (take room t) e r → FoundIn model first room t (e ++ drop room t) r
+in-whole {model} {first} {room} {t} {e} {r} h g =
+    let size = length-take-le room t h in
+    let f = rw size at g in
+    let few = length-take room (map word (reached model first)) in
+    record {
+      over = f .over;
+      count = f .count;
+      table = ap (λ (l : List ℕ). l ++ drop room t) (f .table)
+          ∙ append-assoc (take room (map word (reached model first))) (drop (r .count) (take room t)) (drop room t)
+          ∙ ap (λ (l : List ℕ). take room (map word (reached model first)) ++ l)
+          (sym (drop-append-le (r .count) (take room t) (drop room t) (omega (arith, size, few, f .count)))
+          ∙ ap (drop (r .count)) (take-append-drop room t));
+    }
 
 module _ {bodies : List ℕ} {equations : List Equation} {start count : ℕ} {first : Instance}
     (searchable : Searchable bodies equations start count first) where
@@ -236,7 +260,10 @@ module _ {bodies : List ℕ} {equations : List Equation} {start count : ℕ} {fi
       begins = subst (Begins l) same-found′
           (stage-prefix model first well (at .done ++ (taking ∷ [])) (later ++ new model (at .done) taking later) stage′)
 
-      module _ {t′ : List ℕ} {r : ℕ} (g : SideGathers bodies equations (getD t i 0) room t t′ n r) where
+      module _ {t′ : List ℕ} {r : ℕ} (side : SideGathers bodies equations (getD t i 0) (length t) t t′ n r) where
+        g : SideGathers bodies equations (getD t i 0) room t t′ n r
+        g = in-room s side
+
         -- the table has the next stage, as far as there is room
         filled : found-words t′ (found-of room r) ≡ found-within room (map word found′)
         filled =
@@ -279,9 +306,10 @@ module _ {bodies : List ℕ} {equations : List Equation} {start count : ℕ} {fi
 -- one more instance is taken
 pub search-on : {bodies : List ℕ} {equations : List Equation} {start room : ℕ} {t₀ t t′ : List ℕ} {n r i : ℕ}
     → Searching bodies equations start room t₀ t n i → i < n
-    → SideGathers bodies equations (getD t i 0) room t t′ n r → r ≤ room
+    → SideGathers bodies equations (getD t i 0) (length t) t t′ n r → r ≤ room
     → Searching bodies equations start room t₀ t′ r (i + 1)
-search-on {room = room} {t₀ = t₀} {t = t} {n = n} {r = r} s more g h =
+search-on {room = room} {t₀ = t₀} {t = t} {n = n} {r = r} s more side h =
+    let g = in-room s side in
     let all : min r room ≡ r = omega arith in
     record {
       some = omega (arith, g .kept .more, s .some, s .within);
@@ -289,5 +317,5 @@ search-on {room = room} {t₀ = t₀} {t = t} {n = n} {r = r} s more g h =
       lent = s .lent;
       rest = rw all at (g .kept .rest) ∙ drop-more n r t t₀ (omega (arith, g .kept .more, s .within)) (s .rest);
       size = g .kept .size ∙ s .size;
-      stage = λ count first k. next-stage k s more g h;
+      stage = λ count first k. next-stage k s more side h;
     }

@@ -1,4 +1,4 @@
 pub mod FoundWordsLaws
 pub mod Adding
-pub mod Gathering
+pub mod GatheringLaws
 pub mod Finding

@@ -23,20 +23,22 @@ past c =
 
 gather-requires : tie.Need-gather-requires
 gather-requires c κs =
-    let count = ap (λ (x : Tuple). x .count) (c .before .before .before .before .arguments-of .ensures) ∙ argument-count _ _ in
-    record { reach = omega arith; few = omega arith; lent = omega arith }
+    let around = c .before .before .before in
+    let count = ap (λ (x : Tuple). x .count) (around .before .before .arguments-of .ensures) ∙ argument-count _ _ in
+    record { reach = rw (around .apart .ensures) (omega arith); few = omega arith }
 
 gathered : tie.Need-returns-2
 gathered c =
     let g = c .before .before in
-    let s = g .before .before .before .before .before in
+    let around = g .before .before .before .before in
+    let s = around .before .before in
     let e = named s in
     let a = e .before .before .before .args in
     side-gathers (a .bodies .now) (a .t2) (a .w) (e .equation-of .ensures)
-    (s .before .body-of .ensures) (s .arguments-of .ensures) (g .gather .ensures)
+    (s .before .body-of .ensures) (s .arguments-of .ensures) (rw (around .apart .ensures) at (g .gather .ensures))
 
 pub gather-side-spec : {M : Type 1} → statement M
 gather-side-spec =
     tie.close
-    (tie.spec (λ c κs. tt) past (λ c. search needs) (λ c. search needs) (λ c κs. tt) (λ c κs. tt) (λ c κs. tt)
+    (tie.spec (λ c κs. tt) past (λ c. search needs) (λ c. search needs) (λ c κs. tt) (λ c κs. tt) (λ c κs. tt) (λ c κs. tt)
     gather-requires (λ c. search needs) gathered)

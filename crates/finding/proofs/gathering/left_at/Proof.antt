@@ -3,9 +3,9 @@
 use mathlib.Core.Path.{sym, _∙_}
 use borrow.Author.Needs.{needs}
 use Rattle.finding.specs.Gathered.{unasked}
-use Rattle.finding.proofs.Gathering.{left-valued, left-unread}
-use Rattle.finding.proofs.left_at.Statement.{statement}
-use Rattle.finding.proofs.left_at.Tie as tie
+use Rattle.finding.proofs.GatheringLaws.{left-valued, left-unread}
+use Rattle.finding.proofs.gathering.left_at.Statement.{statement}
+use Rattle.finding.proofs.gathering.left_at.Tie as tie
 
 same-connective : tie.Need-returns
 same-connective c = unasked (sym (c .before .and .ensures) ∙ c .if1 .taken)

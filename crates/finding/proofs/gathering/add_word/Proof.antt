@@ -5,19 +5,19 @@ use native.Mathlib.Omega.{arith}
 use mathlib.Core.Path.{sym}
 use lib.Seq.{length-take-le}
 use Rattle.finding.proofs.Adding.{adds-full, adds-there, adds-past, adds-behind}
-use Rattle.finding.proofs.add_word.Statement.{statement}
-use Rattle.finding.proofs.add_word.Tie as tie
+use Rattle.finding.proofs.gathering.add_word.Statement.{statement}
+use Rattle.finding.proofs.gathering.add_word.Tie as tie
 
 returns : tie.Need-returns
 returns c =
     let s = c .before .before in
-    adds-full (s .args .room) (s .args .table .now) (s .args .n) (s .args .w) (s .pre .0) (s .pre .1) (c .if1 .taken)
+    adds-full (s .args .table .now) (s .args .n) (s .args .w) (s .pre) (c .if1 .taken)
 
 returns-2 : tie.Need-returns-2
 returns-2 c =
     let fits = c .before .before .before in
     let s = fits .before .before in
-    adds-there (s .args .room) (s .args .table .now) (s .args .n) (s .args .w) (s .pre .0) (s .pre .1)
+    adds-there (s .args .table .now) (s .args .n) (s .args .w) (s .pre)
     (fits .if1 .left) (omega (arith, c .before .lookup .ensures))
 
 returns-3 : tie.Need-returns-3
@@ -25,7 +25,7 @@ returns-3 c =
     let looked = c .before .before in
     let fits = looked .before .before in
     let s = fits .before .before in
-    adds-past (s .args .room) (s .args .table .now) (s .args .n) (s .args .w) (s .pre .0) (s .pre .1)
+    adds-past (s .args .table .now) (s .args .n) (s .args .w) (s .pre)
     (fits .if1 .left) (omega (arith, looked .lookup .ensures)) (c .if3 .taken)
 
 returns-4 : tie.Need-returns-4
@@ -33,7 +33,7 @@ returns-4 c =
     let looked = c .before .before in
     let fits = looked .before .before in
     let s = fits .before .before in
-    adds-behind (s .args .room) (s .args .table .now) (s .args .n) (s .args .w) (s .pre .0) (s .pre .1)
+    adds-behind (s .args .table .now) (s .args .n) (s .args .w) (s .pre)
     (fits .if1 .left) (omega (arith, looked .lookup .ensures)) (c .if3 .left)
 
 pub add-word-spec : {M : Type 1} → statement M

@@ -7,12 +7,14 @@ use native.Mathlib.Nat.{sub-zero}
 use mathlib.Core.Path.{_≡_, refl, sym, ap, _∙_}
 use mathlib.Core.Bool.{Bool, true, false, true≢false, false≢true, _&&_, Bool·beq}
 use mathlib.Core.List.{List, [], _∷_, _++_, map, map-append, append-nil, append-assoc}
-use lib.ListN.{length, drop, getD}
+use lib.Dec.{ltb}
+use lib.ListN.{length, drop}
 use lib.Seq.{drop-drop}
+use borrow.Author.Tests.{ltb-false}
 use Rattle.meaning.specs.Logic.{over}
-use Rattle.meaning.specs.Over.{between, between-one, between-parts}
+use Rattle.meaning.specs.Over.{between-one, between-parts}
 use Rattle.meaning.specs.Formulas.{Formula}
-use Rattle.meaning.specs.Ranges.{is-range}
+use Rattle.meaning.specs.Typed.{range-positive}
 use Rattle.meaning.specs.Simplification.{Simplified, decided, left, join-simplified, simplified}
 use Rattle.meaning.specs.Reach.{leaves, instances}
 use Rattle.meaning.specs.Words.{word}
@@ -20,23 +22,24 @@ use Rattle.formulas.specs.declared.Kind.{Kind}
 use Rattle.formulas.specs.declared.Kind.the-variants.{Join, Quantifier, Compare, Instance}
 use Rattle.formulas.specs.declared.Test.{Test}
 use Rattle.formulas.specs.declared.Tuple.{Tuple}
-use Rattle.formulas.specs.Contract.{InstanceTold, FormulaTold}
+use Rattle.formulas.specs.Contract.{FormulaTold}
 use Rattle.formulas.specs.Tuples.{items}
 use Rattle.formulas.proofs.ByKind as law
 use Rattle.evaluator.specs.declared.Stretch.{Stretch}
 use Rattle.evaluator.specs.declared.Valued.{Valued}
 use Rattle.evaluator.specs.Values.{value-in}
-use Rattle.evaluator.specs.Replies.{ValueReply, instance-word}
+use Rattle.evaluator.specs.Replies.{ValueReply}
 use Rattle.evaluator.proofs.Replies.{value-told}
 use Rattle.evaluator.proofs.AsTruth.{told, open-everywhere}
-use Rattle.finding.specs.declared.Around.{Around}
+use Rattle.finding.specs.declared.gathering.Around.{Around}
 use Rattle.finding.specs.declared.Found.{Found}
-use Rattle.finding.specs.FoundWords.{FoundWords, add-one, add}
+use Rattle.finding.specs.FoundWords.{FoundWords, add}
 use Rattle.finding.proofs.FoundWordsLaws.{add-append}
-use Rattle.finding.specs.Kept.{found-of, found-words, Kept, Adds}
+use Rattle.finding.specs.Kept.{found-of, found-words, Kept}
 use Rattle.finding.specs.Absorbed.{absorbs, parted}
-use Rattle.finding.specs.Gathered.{words-left, inside, apart, Free, is-open, is-left}
-use Rattle.finding.specs.Gathered.{LeftTold, unasked, asked, Gathers, GathersLeft, GathersOver}
+use Rattle.finding.specs.Gathered.{words-left, inside, apart, stretch-of, Free, is-open, is-left}
+use Rattle.finding.specs.Gathered.{LeftTold, unasked, asked, RangeTold, a-fifth, no-range, a-range}
+use Rattle.finding.specs.Gathered.{Gathers, GathersInstance, unread, read, GathersLeft, GathersOver}
 
 -- ---- the table
 pub drop-more : {A : Type 0} (n m : ℕ) (a b : List A) → n ≤ m → drop n a ≡ drop n b → drop m a ≡ drop m b
@@ -60,6 +63,11 @@ added-both : (room : ℕ) (s : FoundWords) (ws us : List ℕ) {m e : FoundWords}
     → e ≡ add room m us → e ≡ add room s all
 added-both room s ws us h a b = b ∙ ap (λ (k : FoundWords). add room k us) a ∙ sym (add-append room s ws us)
     ∙ ap (add room s) (sym h)
+
+-- where a test of two is passed, both hold
+pub both-hold : {a b c : Bool} → c ≡ (a && b) → c ≡ true → (a ≡ true) × (b ≡ true)
+both-hold {a = true} e z = (refl, sym e ∙ z)
+both-hold {a = false} e z = absurd (false≢true (sym e ∙ z))
 
 -- ---- what decides a connective
 same-connective : (around : Around) (all : Bool) (x : Simplified) → (around .within && Bool·beq all (around .all)) ≡ true
@@ -103,22 +111,21 @@ told-is-open (decided true) = refl
 told-is-open (decided false) = refl
 told-is-open (left l) = refl
 
-module _ {body : List ℕ} {at : ℕ} {scope : Tuple} {q : ℕ} {all : Bool} {around : Around} (set : ℕ → Bool) {r : Valued}
-    (reach : scope .count ≤ 4 + q) (v : ValueReply (value-in [] set) body at scope q r) where
-  pub left-valued : {b : Bool} → r .ok ≡ true → b ≡ is-open (r .value) → LeftTold body at scope q all around b (r .next)
+module _ {body : List ℕ} {at : ℕ} {scope : Tuple} {all : Bool} {around : Around} (set : ℕ → Bool) {r : Valued}
+    (reach : scope .count ≤ 4 + around .q) (v : ValueReply (value-in [] set) body at scope (around .q) r) where
+  pub left-valued : {b : Bool} → r .ok ≡ true → b ≡ is-open (r .value) → LeftTold body at scope all around b (r .next)
   left-valued z h = asked {next = r .next} (omega (arith, law.formula-on (value-told reach v) z))
       (law.formula-map (value-told reach v)
       (λ f x. h ∙ ap is-open (x ∙ open-everywhere f set (items scope)) ∙ told-is-open (simplified f (items scope))))
 
-  pub left-unread : r .ok ≡ false → LeftTold body at scope q all around false at
+  pub left-unread : r .ok ≡ false → LeftTold body at scope all around false at
   left-unread z = asked {next = at} (omega arith) (law.formula-lost (value-told reach v) z)
 
 -- ---- what was gathered may be told of an earlier place, and in other words
 gathered : {C D : Formula → Type 0} {ws us : Formula → List ℕ} {room : ℕ} {body : List ℕ} {k q at k′ q′ at′ : ℕ} {t e : List ℕ}
     {s r next : ℕ} {ok : Bool} → Gathers C ws room body k q at t e s r next → at′ ≤ at
     → FormulaTold (λ f. D f → found-words e (found-of room r) ≡ add room (found-words t (found-of room s)) (us f)) body
-    (length body)
-    k′ q′ at′ ok next
+    (length body) k′ q′ at′ ok next
     → Gathers D us room body k′ q′ at′ t e s r next
 gathered {ok} g l u = record { on = omega (arith, g .on); few = g .few; kept = g .kept; there = ok; told = u }
 
@@ -135,26 +142,26 @@ module _ {C : Formula → Type 0} {ws : Formula → List ℕ} {room : ℕ} {body
     told = law.formula-map u (λ f h c. rw (h c) refl);
   }
 
-module _ {room : ℕ} {body : List ℕ} {at : ℕ} {scope : Tuple} {q : ℕ} {all : Bool} where
-  pub gather-closed : {around : Around} {b : Bool} {m : ℕ} {t : List ℕ} {s : ℕ} → s ≤ room + 1
-      → LeftTold body at scope q all around b m → b ≡ false
-      → GathersLeft around (items scope) room body (scope .count) q at t t s s m
+module _ {body : List ℕ} {at : ℕ} {scope : Tuple} {all : Bool} where
+  pub gather-closed : {around : Around} {b : Bool} {m : ℕ} {t : List ℕ} {s : ℕ} → s ≤ length t + 1
+      → LeftTold body at scope all around b m → b ≡ false
+      → GathersLeft around (items scope) body (scope .count) at t t s s m
   gather-closed l (unasked h) z = absurd (true≢false z)
   gather-closed l (asked on u) z =
       gather-nothing l on (law.formula-map u (λ f h _. none-left (simplified f (items scope)) (sym z ∙ h)))
 
   -- a test is never left: it is evaluated to know where it ends
   pub gather-compare : (around : Around) {kind : Kind} {test : Test} {b : Bool} {m : ℕ} {t : List ℕ} {s : ℕ}
-      → law.Head body at kind → kind ≡ Compare test → s ≤ room + 1 → LeftTold body at scope q all apart b m
-      → GathersLeft around (items scope) room body (scope .count) q at t t s s m
+      → law.Head body at kind → kind ≡ Compare test → s ≤ length t + 1 → LeftTold body at scope all (apart (around .q)) b m
+      → GathersLeft around (items scope) body (scope .count) at t t s s m
   unfolding simplified instances
   gather-compare around head e l (unasked h) = absurd (false≢true h)
   gather-compare around head e l (asked on u) = gather-nothing l on (law.formula-compare-as head e u (λ _ _ _ _. refl))
 
   -- what is gathered where nothing decides the formula's connective is gathered where it is free of that around it
-  pub gather-free : {around : Around} {b : Bool} {m : ℕ} {t e : List ℕ} {s r next : ℕ} → LeftTold body at scope q all around b m
-      → b ≡ true → GathersLeft (inside all) (items scope) room body (scope .count) q at t e s r next
-      → GathersLeft around (items scope) room body (scope .count) q at t e s r next
+  pub gather-free : {around : Around} {b : Bool} {m : ℕ} {t e : List ℕ} {s r next : ℕ} → LeftTold body at scope all around b m
+      → b ≡ true → GathersLeft (inside (around .q) all) (items scope) body (scope .count) at t e s r next
+      → GathersLeft around (items scope) body (scope .count) at t e s r next
   gather-free {around} (unasked h) z g =
       gathered g (omega arith) (law.formula-map (g .told)
       (λ f x free. x (λ _. same-connective around all (simplified f (items scope)) h free)))
@@ -162,70 +169,103 @@ module _ {room : ℕ} {body : List ℕ} {at : ℕ} {scope : Tuple} {q : ℕ} {al
       gathered g (omega arith) (law.formula-map (law.formula-both (g .told) u)
       (λ f x _. x .0 (λ _. left-free all (simplified f (items scope)) (sym z ∙ x .1))))
 
--- ---- the parts of a formula
-module _ {body : List ℕ} {at : ℕ} {kind : Kind} (head : law.Head body at kind) {room : ℕ} (v : List ℕ) {k q : ℕ} where
-  pub gather-join : {all : Bool} {t m e : List ℕ} {s u r i next : ℕ} → kind ≡ Join all
-      → GathersLeft (inside all) v room body k q (at + 1) t m s u i → GathersLeft (inside all) v room body k q i m e u r next
-      → GathersLeft (inside all) v room body k q at t e s r next
-  unfolding simplified
-  gather-join {all} {t} {s} h a b = record {
-    on = omega (arith, a .on, b .on);
-    few = b .few;
-    kept = kept-then (a .kept) (b .kept);
-    there = a .there && b .there;
-    told = law.formula-joined head h (a .told) (omega arith) (b .told) (λ f g x y free.
-        let both = parted all (simplified f v) (simplified g v) (free refl) in
-        added-both room (found-words t (found-of room s)) (words-left (simplified f v)) (words-left (simplified g v))
-        (ap (map word) (both .both) ∙ map-append word (instances (simplified f v)) (instances (simplified g v)))
-        (x (λ _. both .first)) (y (λ _. both .second)));
-  }
+-- ---- a quantifier: it has a range, or it is not read
+left-on : {body : List ℕ} {at : ℕ} {scope : Tuple} {all : Bool} {around : Around} {b : Bool} {m : ℕ}
+    → LeftTold body at scope all around b m → at ≤ m
+left-on (unasked h) = omega arith
+left-on (asked on u) = on
 
-  pub gather-quantifier : {all : Bool} {r : ℕ} {t e : List ℕ} {s u next : ℕ} → kind ≡ Quantifier all → q < 4
-      → r ≡ getD body (at + 1) 0 → is-range r ≡ true
-      → GathersOver (record { q = q; all = all; from = 0; to = r }) v room body (k + 1) (q + 1) (at + 2) t e s u next
-      → GathersLeft (inside all) v room body k q at t e s u next
+module _ {body : List ℕ} {at : ℕ} {kind : Kind} (head : law.Head body at kind) {all : Bool} (h : kind ≡ Quantifier all) where
+  unranged : {P : Formula → Type 0} {k q r e : ℕ} → RangeTold body (at + 1) q r → r ≤ 0
+      → FormulaTold P body (length body) k q at false e
+  unranged (a-fifth d) z = law.formula-fifth head h d
+  unranged (no-range d n) z = law.formula-quantifier-no head h d refl n
+  unranged (a-range {r} d b i) z = absurd (omega (arith, range-positive r i))
+
+  -- nothing is left of it, or it is not read
+  pub quantifier-closed : {scope : Tuple} {around : Around} {b c : Bool} {r m : ℕ} {t : List ℕ} {s : ℕ} → s ≤ length t + 1
+      → LeftTold body at scope all around b m → RangeTold body (at + 1) (around .q) r → c ≡ (b && ltb 0 r) → c ≡ false
+      → GathersLeft around (items scope) body (scope .count) at t t s s m
+  quantifier-closed {b = false} l o p e z = gather-closed l o refl
+  quantifier-closed {b = true} {r = r} l o p e z =
+      gather-nothing l (left-on o) (unranged p (ltb-false 0 r (sym e ∙ z)))
+
+-- a range is told only where one more quantifier may be
+pub range-few : {body : List ℕ} {at q r : ℕ} → RangeTold body at q r → 0 < r → q < 4
+range-few (a-fifth d) l = absurd (omega arith)
+range-few (no-range d n) l = d
+range-few (a-range d b i) l = d
+
+-- ---- the parts of a formula
+module _ {body : List ℕ} {at : ℕ} {kind : Kind} (head : law.Head body at kind) (v : List ℕ) {k : ℕ} where
+  pub gather-join : {q : ℕ} {all : Bool} {t m e : List ℕ} {s u r i next : ℕ} {inner : Around} → kind ≡ Join all
+      → inner ≡ inside q all
+      → GathersLeft inner v body k (at + 1) t m s u i → GathersLeft inner v body k i m e u r next
+      → GathersLeft (inside q all) v body k at t e s r next
   unfolding simplified
-  gather-quantifier {all} {r} h d byte range g =
+  gather-join {all} {t} {s} h e first second =
+      let a = rw e at first in
+      let b = rw (e, a .kept .size) at second in record {
+        on = omega (arith, a .on, b .on);
+        few = b .few;
+        kept = kept-then (a .kept) (b .kept);
+        there = a .there && b .there;
+        told = law.formula-joined head h (a .told) (omega arith) (b .told) (λ f g x y free.
+            let both = parted all (simplified f v) (simplified g v) (free refl) in
+            added-both (length t) (found-words t (found-of (length t) s)) _ _
+            (ap (map word) (both .both) ∙ map-append word (instances (simplified f v)) (instances (simplified g v)))
+            (x (λ _. both .first)) (y (λ _. both .second)));
+      }
+
+  pub gather-quantifier : {q : ℕ} {all : Bool} {r : ℕ} {t e : List ℕ} {s u next : ℕ} {values : Stretch} → kind ≡ Quantifier all
+      → RangeTold body (at + 1) q r → 0 < r → values ≡ stretch-of q all 0 r
+      → GathersOver values v body (k + 1) (at + 2) t e s u next
+      → GathersLeft (inside q all) v body k at t e s u next
+  unfolding simplified
+  gather-quantifier h (a-fifth d) l e over = absurd (omega arith)
+  gather-quantifier h (no-range d n) l e over = absurd (omega arith)
+  gather-quantifier {all} {r} h (a-range d byte range) l e over =
+      let g = rw e at over in
       gathered g (omega arith) (law.formula-quantifier head h d byte range (g .told) (λ f x free.
       let each = over-left all (λ i. simplified f (v ++ (i ∷ []))) 0 r (free refl) in
       rw (each .1) (rw sub-zero at (x (λ i _ l. each .0 i (omega arith) (omega arith))))))
 
-  pub gather-instance : (around : Around) {w : ℕ} {ok : Bool} {t e : List ℕ} {s m next : ℕ} → kind ≡ Instance
-      → InstanceTold (λ f. w ≡ instance-word v f) body k (at + 1) ok next → ok ≡ true → Adds room t e s m w
-      → GathersLeft around v room body k q at t e s m next
-  unfolding simplified instances leaves add
-  gather-instance around {ok} h i z a = record {
-    on = omega (arith, law.instance-on i z);
-    few = a .within;
-    kept = a .kept;
-    there = ok;
-    told = law.formula-instance head h (law.instance-map i (λ l w _. rw (← w) (a .added)));
-  }
+-- an instance is left itself
+pub gather-instance : {body : List ℕ} {at : ℕ} {scope : Tuple} {kind : Kind} (around : Around) {t e : List ℕ} {s m next : ℕ}
+    → law.Head body at kind → kind ≡ Instance → s ≤ length t + 1 → GathersInstance body at scope t s e m next
+    → GathersLeft around (items scope) body (scope .count) at t e s m next
+unfolding simplified instances leaves add
+gather-instance around head h l (unread i z) = gather-nothing l (omega arith) (law.formula-lost (law.formula-instance head h i) z)
+gather-instance around head h l (read {ok} i z a) = record {
+  on = omega (arith, law.instance-on i z);
+  few = a .within;
+  kept = a .kept;
+  there = ok;
+  told = law.formula-instance head h (law.instance-map i (λ l w _. rw (← w) (a .added)));
+}
 
 -- ---- the values of a stretch
-module _ (stretch : Stretch) (v : List ℕ) {room : ℕ} {body : List ℕ} {k q at : ℕ} where
+module _ (stretch : Stretch) (v : List ℕ) {body : List ℕ} {k at : ℕ} where
   -- the only value
   pub gather-last : {t e : List ℕ} {s r next : ℕ} → stretch .from < stretch .to → stretch .to ≤ stretch .from + 1
-      → GathersLeft (inside (stretch .all)) (v ++ (stretch .from ∷ [])) room body k q at t e s r next
-      → GathersOver stretch v room body k q at t e s r next
+      → GathersLeft (inside (stretch .q + 1) (stretch .all)) (v ++ (stretch .from ∷ [])) body k at t e s r next
+      → GathersOver stretch v body k at t e s r next
   gather-last {t} {s} l h g =
       gathered g (omega arith) (law.formula-map (g .told) (λ f x free. x (λ _. free (stretch .from) (omega arith) l) ∙
-      ap (add room (found-words t (found-of room s)))
+      ap (add (length t) (found-words t (found-of (length t) s)))
       (sym (between-one _++_ [] (λ i. words-left (simplified f (v ++ (i ∷ [])))) l h ∙ append-nil _))))
 
   pub gather-halves : {middle : ℕ} {t m e : List ℕ} {s u r i next : ℕ} → stretch .from ≤ middle → middle ≤ stretch .to
-      → GathersOver (record { q = stretch .q; all = stretch .all; from = stretch .from; to = middle }) v room body k q at t m s u
-      i
-      → GathersOver (record { q = stretch .q; all = stretch .all; from = middle; to = stretch .to }) v room body k q at m e u r
-      next
-      → GathersOver stretch v room body k q at t e s r next
-  gather-halves {t} {s} l h a b = record {
+      → GathersOver (stretch-of (stretch .q) (stretch .all) (stretch .from) middle) v body k at t m s u i
+      → GathersOver (stretch-of (stretch .q) (stretch .all) middle (stretch .to)) v body k at m e u r next
+      → GathersOver stretch v body k at t e s r next
+  gather-halves {t} {s} l h a c = let b = rw (a .kept .size) at c in record {
     on = b .on;
     few = b .few;
     kept = kept-then (a .kept) (b .kept);
     there = b .there;
     told = law.formula-map (law.formula-both (b .told) (a .told)) (λ f x free.
-        added-both room (found-words t (found-of room s)) _ _
+        added-both (length t) (found-words t (found-of (length t) s)) _ _
         (sym (between-parts _++_ [] (λ a b c. sym (append-assoc a b c)) (λ a. refl)
         (λ i. words-left (simplified f (v ++ (i ∷ [])))) l h))
         (x .1 (λ i p q. free i p (omega arith))) (x .0 (λ i p q. free i (omega arith) q)));

@@ -5,17 +5,20 @@ use mathlib.Core.Path.{_≡_}
 use lib.ListN.{length}
 use borrow.Fn.Kinds.{In, Out}
 use borrow.Fn.PlainCycle.{Measures}
-use Rattle.finding.proofs.+gather+gather_fold.Lts-gather as gather
-use Rattle.finding.proofs.+gather+gather_fold.Lts-gather_fold as fold
-use Rattle.finding.proofs.gather.Kinds as of-gather
-use Rattle.finding.proofs.gather.Reads as gather-reads
-use Rattle.finding.proofs.gather_fold.Kinds as of-fold
-use Rattle.finding.proofs.gather_fold.Reads as fold-reads
+use Rattle.finding.proofs.gathering.+gather+gather_fold.Lts-gather as gather
+use Rattle.finding.proofs.gathering.+gather+gather_fold.Lts-gather_fold as fold
+use Rattle.finding.proofs.gathering.gather.Kinds as of-gather
+use Rattle.finding.proofs.gathering.gather.Reads as gather-reads
+use Rattle.finding.proofs.gathering.gather_fold.Kinds as of-fold
+use Rattle.finding.proofs.gathering.gather_fold.Reads as fold-reads
+use Rattle.basics.proofs.and.Reads as and-reads
 use Rattle.basics.proofs.element.Reads as element-reads
-use Rattle.finding.proofs.add_word.Reads as add-word-reads
-use Rattle.finding.proofs.left_at.Reads as left-at-reads
-use Rattle.evaluator.proofs.word_at.Reads as word-at-reads
-use Rattle.formulas.proofs.is_range.Reads as is-range-reads
+use Rattle.finding.proofs.gathering.apart.Reads as apart-reads
+use Rattle.finding.proofs.gathering.inside.Reads as inside-reads
+use Rattle.finding.proofs.gathering.stretch_of.Reads as stretch-of-reads
+use Rattle.finding.proofs.gathering.left_at.Reads as left-at-reads
+use Rattle.finding.proofs.gathering.range_at.Reads as range-at-reads
+use Rattle.finding.proofs.gathering.gather_instance.Reads as gather-instance-reads
 use Rattle.formulas.proofs.kind_of.Reads as kind-of-reads
 use Rattle.formulas.proofs.push.Reads as push-reads
 
@@ -51,26 +54,36 @@ module _ (t : ℕ) where
     element-reads.Learnt,
     kind-of-reads.Asked,
     kind-of-reads.Learnt,
+    apart-reads.Asked,
+    apart-reads.Learnt,
     left-at-reads.Asked,
     left-at-reads.Learnt,
+    inside-reads.Asked,
+    inside-reads.Learnt,
     gather-below,
     gather-post,
-    is-range-reads.Asked,
-    is-range-reads.Learnt,
+    range-at-reads.Asked,
+    range-at-reads.Learnt,
+    and-reads.Asked,
+    and-reads.Learnt,
+    stretch-of-reads.Asked,
+    stretch-of-reads.Learnt,
     fold-below,
     fold-post,
-    word-at-reads.Asked,
-    word-at-reads.Learnt,
-    add-word-reads.Asked,
-    add-word-reads.Learnt,
+    gather-instance-reads.Asked,
+    gather-instance-reads.Learnt,
   )
 
   abbrev pub fold-calls : fold.Claims
   fold-calls = (
     push-reads.Asked,
     push-reads.Learnt,
+    inside-reads.Asked,
+    inside-reads.Learnt,
     gather-below,
     gather-post,
+    stretch-of-reads.Asked,
+    stretch-of-reads.Learnt,
     fold-below,
     fold-post,
   )
