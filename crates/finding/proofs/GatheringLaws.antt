@@ -38,7 +38,7 @@ use Rattle.finding.proofs.FoundWordsLaws.{add-append}
 use Rattle.finding.specs.Kept.{found-of, found-words, Kept}
 use Rattle.finding.specs.Absorbed.{absorbs, parted}
 use Rattle.finding.specs.Gathered.{words-left, inside, apart, stretch-of, Free, is-open, is-left}
-use Rattle.finding.specs.Gathered.{LeftTold, unasked, asked, RangeTold, a-fifth, no-range, a-range}
+use Rattle.finding.specs.Gathered.{LeftTold, as-around, by-value, RangeTold, a-fifth, no-range, a-range}
 use Rattle.finding.specs.Gathered.{Gathers, GathersInstance, unread, read, GathersLeft, GathersOver}
 
 -- ---- the table
@@ -114,12 +114,12 @@ told-is-open (left l) = refl
 module _ {body : List ℕ} {at : ℕ} {scope : Tuple} {all : Bool} {around : Around} (set : ℕ → Bool) {r : Valued}
     (reach : scope .count ≤ 4 + around .q) (v : ValueReply (value-in [] set) body at scope (around .q) r) where
   pub left-valued : {b : Bool} → r .ok ≡ true → b ≡ is-open (r .value) → LeftTold body at scope all around b (r .next)
-  left-valued z h = asked {next = r .next} (omega (arith, law.formula-on (value-told reach v) z))
+  left-valued z h = by-value {next = r .next} (omega (arith, law.formula-on (value-told reach v) z))
       (law.formula-map (value-told reach v)
       (λ f x. h ∙ ap is-open (x ∙ open-everywhere f set (items scope)) ∙ told-is-open (simplified f (items scope))))
 
   pub left-unread : r .ok ≡ false → LeftTold body at scope all around false at
-  left-unread z = asked {next = at} (omega arith) (law.formula-lost (value-told reach v) z)
+  left-unread z = by-value {next = at} (omega arith) (law.formula-lost (value-told reach v) z)
 
 -- ---- what was gathered may be told of an earlier place, and in other words
 gathered : {C D : Formula → Type 0} {ws us : Formula → List ℕ} {room : ℕ} {body : List ℕ} {k q at k′ q′ at′ : ℕ} {t e : List ℕ}
@@ -146,8 +146,8 @@ module _ {body : List ℕ} {at : ℕ} {scope : Tuple} {all : Bool} where
   pub gather-closed : {around : Around} {b : Bool} {m : ℕ} {t : List ℕ} {s : ℕ} → s ≤ length t + 1
       → LeftTold body at scope all around b m → b ≡ false
       → GathersLeft around (items scope) body (scope .count) at t t s s m
-  gather-closed l (unasked h) z = absurd (true≢false z)
-  gather-closed l (asked on u) z =
+  gather-closed l (as-around h) z = absurd (true≢false z)
+  gather-closed l (by-value on u) z =
       gather-nothing l on (law.formula-map u (λ f h _. none-left (simplified f (items scope)) (sym z ∙ h)))
 
   -- a test is never left: it is evaluated to know where it ends
@@ -155,25 +155,25 @@ module _ {body : List ℕ} {at : ℕ} {scope : Tuple} {all : Bool} where
       → law.Head body at kind → kind ≡ Compare test → s ≤ length t + 1 → LeftTold body at scope all (apart (around .q)) b m
       → GathersLeft around (items scope) body (scope .count) at t t s s m
   unfolding simplified instances
-  gather-compare around head e l (unasked h) = absurd (false≢true h)
-  gather-compare around head e l (asked on u) = gather-nothing l on (law.formula-compare-as head e u (λ _ _ _ _. refl))
+  gather-compare around head e l (as-around h) = absurd (false≢true h)
+  gather-compare around head e l (by-value on u) = gather-nothing l on (law.formula-compare-as head e u (λ _ _ _ _. refl))
 
   -- what is gathered where nothing decides the formula's connective is gathered where it is free of that around it
   pub gather-free : {around : Around} {b : Bool} {m : ℕ} {t e : List ℕ} {s r next : ℕ} → LeftTold body at scope all around b m
       → b ≡ true → GathersLeft (inside (around .q) all) (items scope) body (scope .count) at t e s r next
       → GathersLeft around (items scope) body (scope .count) at t e s r next
-  gather-free {around} (unasked h) z g =
+  gather-free {around} (as-around h) z g =
       gathered g (omega arith) (law.formula-map (g .told)
       (λ f x free. x (λ _. same-connective around all (simplified f (items scope)) h free)))
-  gather-free (asked on u) z g =
+  gather-free (by-value on u) z g =
       gathered g (omega arith) (law.formula-map (law.formula-both (g .told) u)
       (λ f x _. x .0 (λ _. left-free all (simplified f (items scope)) (sym z ∙ x .1))))
 
 -- ---- a quantifier: it has a range, or it is not read
 left-on : {body : List ℕ} {at : ℕ} {scope : Tuple} {all : Bool} {around : Around} {b : Bool} {m : ℕ}
     → LeftTold body at scope all around b m → at ≤ m
-left-on (unasked h) = omega arith
-left-on (asked on u) = on
+left-on (as-around h) = omega arith
+left-on (by-value on u) = on
 
 module _ {body : List ℕ} {at : ℕ} {kind : Kind} (head : law.Head body at kind) {all : Bool} (h : kind ≡ Quantifier all) where
   unranged : {P : Formula → Type 0} {k q r e : ℕ} → RangeTold body (at + 1) q r → r ≤ 0

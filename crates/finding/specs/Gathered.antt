@@ -56,9 +56,9 @@ is-left (left l) = true
 -- left of it
 pub data LeftTold (body : List ℕ) (at : ℕ) (scope : Tuple) (all : Bool) (around : Around)
     : Bool → ℕ → Type 0 where
-  unasked : (around .within && Bool·beq all (around .all)) ≡ true
+  as-around : (around .within && Bool·beq all (around .all)) ≡ true
       → LeftTold body at scope all around true at
-  asked : {left ok : Bool} {next : ℕ} → at ≤ next
+  by-value : {left ok : Bool} {next : ℕ} → at ≤ next
       → FormulaTold (λ f. left ≡ is-left (simplified f (items scope))) body (length body) (scope .count)
       (around .q) at ok next → LeftTold body at scope all around left next
 

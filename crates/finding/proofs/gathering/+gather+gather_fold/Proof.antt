@@ -108,10 +108,10 @@ module _ (t : ℕ) where
       (range .range-at .ensures) (c .before .and .ensures) (not-true _ (c .if3 .taken))
 
   -- where something may be left of a quantifier that has a range
-  asked : (c : gather.Else3 (gather-calls t) (gather-at t) gather-post)
+  may-gather : (c : gather.Else3 (gather-calls t) (gather-at t) gather-post)
       → let range = c .before .before in
       (range .before .left-at3 .result .left ≡ true) × (0 < range .range-at .result)
-  asked c =
+  may-gather c =
       let both = both-hold (c .before .and .ensures) (not-false _ (c .if3 .left)) in
       (both .0, ltb-true 0 _ (both .1))
 
@@ -121,7 +121,7 @@ module _ (t : ℕ) where
       let range = test .before .before in
       let k = range .before .before .before .before .before in
       let p = start k .pre in
-      let some = asked test .1 in
+      let some = may-gather test .1 in
       rw (c .before .before .stretch-of .ensures) (
         omega (arith, range .range-at .ok, head k .inside, p .0),
         (p .1, record { some = some; few = range-few (range .range-at .ensures) some; reach = p .1 .reach }),
@@ -135,8 +135,8 @@ module _ (t : ℕ) where
       let range = test .before .before in
       let o = range .before in
       let arm = o .before .before in
-      gather-free (o .left-at3 .ensures) (asked test .0)
-      (gather-quantifier (head (arm .before .before)) _ (arm .kind2 .given .1) (range .range-at .ensures) (asked test .1)
+      gather-free (o .left-at3 .ensures) (may-gather test .0)
+      (gather-quantifier (head (arm .before .before)) _ (arm .kind2 .given .1) (range .range-at .ensures) (may-gather test .1)
       (values .stretch-of .ensures) (over .gather-fold .ensures))
 
   an-instance : gather.Need-returns-9 (gather-calls t) (gather-at t) gather-post

@@ -2,13 +2,13 @@
 -- The evaluator is given an empty table.
 use mathlib.Core.Path.{sym, _∙_}
 use borrow.Author.Needs.{needs}
-use Rattle.finding.specs.Gathered.{unasked}
+use Rattle.finding.specs.Gathered.{as-around}
 use Rattle.finding.proofs.GatheringLaws.{left-valued, left-unread}
 use Rattle.finding.proofs.gathering.left_at.Statement.{statement}
 use Rattle.finding.proofs.gathering.left_at.Tie as tie
 
 same-connective : tie.Need-returns
-same-connective c = unasked (sym (c .before .and .ensures) ∙ c .if1 .taken)
+same-connective c = as-around (sym (c .before .and .ensures) ∙ c .if1 .taken)
 
 a-value : tie.Need-returns-2
 a-value c =
