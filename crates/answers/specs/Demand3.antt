@@ -13,7 +13,7 @@ use Rattle.reading.specs.Reading.{text-refusal}
 use Rattle.reading.proofs.WellFormed.{reading-well-formed}
 use Rattle.truth.specs.Bits.{bit-of}
 use Rattle.answers.specs.declared.Answer.{Answer}
-use Rattle.answers.specs.Answers.{the-model, the-start, list, truth-in, room-of, refusal, verdict}
+use Rattle.answers.specs.Answers.{the-model, the-start, list, truth-in, room-of, verdict}
 use Rattle.answers.specs.Answers.{answer, kept-words, checked}
 use Rattle.answers.specs.Demand1.{_exactly-when_, Reply, short-list, text-refused, too-many, judged-so}
 use Rattle.answers.specs.Demand1.{every-answer, records-enough, nine-given, kept-all}

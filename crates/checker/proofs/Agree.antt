@@ -11,7 +11,7 @@ use borrow.Author.Tests.{le-ltb, lt-ltb}
 use Rattle.reading.specs.declared.Model.{Model}
 use Rattle.reading.specs.declared.Reading.{Reading}
 use Rattle.reading.specs.Records.{reading}
-use Rattle.reading.proofs.Finishing.{few, eight-equations}
+use Rattle.reading.proofs.Finishing.{few}
 use Rattle.reading.proofs.WellFormed.{reading-drafted}
 use Rattle.answers.specs.declared.Answer.{Answer}
 use Rattle.answers.specs.Answers.{refusal, checked, table-after-check}
