@@ -1,6 +1,6 @@
 -- A set with one bit turned over, as `put` does it: digit m of `w xor 2 ^ k` is that of w, but turned over where m is k.
 -- One law of a number's digits under xor gives both, with no induction.
-use mathlib.Core.Path.{_≡_, refl, sym, ap, _∙_, fun-ext}
+use mathlib.Core.Path.{_≡_, refl, sym, ap, _∙_}
 use mathlib.Core.Bool.{Bool, true, false, not, Bool·beq, true≢false}
 use mathlib.Core.List.{List}
 use Prim.Native.Nat.{ℕ, zero, suc, _+_, _-_, _/_, _%_, _^_, _<_}
@@ -12,9 +12,9 @@ use lib.Bits.{bitXor, xor-shr, xor-mod, xor-zero-r, shifted-even}
 use lib.Pow.{pow-pos, pow-lt, pow-add, shl-shr}
 use lib.ListN.{length, getD, set}
 use lib.Seq.{getD-set-same, getD-set-other}
-use borrow.Author.Tests.{eq-eqb, ne-eqb, not-true, not-false}
+use borrow.Author.Tests.{not-true, not-false}
 use Rattle.truth.specs.Bits.{digit, bit-of, updated}
-use Rattle.truth.proofs.Bits.{beq-self, beq-eq}
+use Rattle.truth.proofs.Bits.{updated-is, beq-self, beq-eq}
 
 -- ---- digits under xor
 digit-xor : (a b m : ℕ) → digit (bitXor a b) m ≡ bitXor (digit a m) (digit b m)
@@ -85,15 +85,8 @@ beq-other a b e q = true≢false (sym (beq-self b) ∙ ap (λ (x : Bool). Bool·
 -- ---- what `put` does, where the bit is wrong and where it is right
 pub put-flips : (ws : List ℕ) (j : ℕ) (b : Bool) → j / 64 < length ws → (bit-of ws j ≡ b → ⊥)
     → bit-of (flipped ws j) ≡ updated (bit-of ws) j b
-unfolding updated
-put-flips ws j b h ne = fun-ext λ k. elim (ℕ-discrete k j) [
-  | yes e ↦ rw (e, eq-eqb j j refl) (flipped-same ws j h ∙ not-is (bit-of ws j) b ne)
-  | no n ↦ rw (ne-eqb k j n) (flipped-other ws j k h n)
-]
+put-flips ws j b h ne =
+    updated-is _ _ j b (flipped-same ws j h ∙ not-is (bit-of ws j) b ne) (λ k n. flipped-other ws j k h n)
 
 pub put-keeps : (f : ℕ → Bool) (j : ℕ) (b : Bool) → f j ≡ b → f ≡ updated f j b
-unfolding updated
-put-keeps f j b e = fun-ext λ k. elim (ℕ-discrete k j) [
-  | yes q ↦ rw (q, eq-eqb j j refl) e
-  | no n ↦ rw (ne-eqb k j n) refl
-]
+put-keeps f j b e = updated-is f f j b e (λ k n. refl)
