@@ -92,32 +92,31 @@ module _ (t : List ℕ) (records words : ℕ) where
       → checked t records words ≡ verdict t
   then-verdict h r l = caused (judged-so h r l)
 
+  -- there are records enough, the text is read, and R
+  abbrev ReadWith : Type 0 → Type 0
+  ReadWith R = (8 ≤ records) × (text-refusal t .number ≡ 0) × R
+
+  causes : {a : Answer} → Reply t records words a
+      → (a .number ≡ 0 → ReadWith (length (list t) ≤ room-of words))
+      × (a .number ≡ 9 → ReadWith (room-of words < length (list t)))
+  unfolding verdict
+  causes (short-list h) = ((λ e. absurd (omega arith)), λ e. absurd (omega arith))
+  causes (text-refused h r) = ((λ e. absurd (r e)), λ e. absurd (omega (arith, refusal-bounded t .0)))
+  causes (too-many h r l) = ((λ e. absurd (omega arith)), λ e. (h, r, l))
+  causes (judged-so h r l) = ((λ e. (h, r, l)), λ e. absurd (omega arith))
+
   -- a verdict is given exactly when there are records enough, the text is read, and the reached instances
   -- have room
   pub verdict-given : (checked t records words .number ≡ 0) exactly-when
       ((8 ≤ records) × (text-refusal t .number ≡ 0) × (length (list t) ≤ room-of words))
   unfolding verdict
-  verdict-given = (from every-answer, λ p. ap (λ (a : Answer). a .number) (then-verdict (p .0) (p .1) (p .2)))
-    where
-      from : {a : Answer} → Reply t records words a → a .number ≡ 0
-          → (8 ≤ records) × (text-refusal t .number ≡ 0) × (length (list t) ≤ room-of words)
-      from (short-list h) e = absurd (omega arith)
-      from (text-refused h r) e = absurd (r e)
-      from (too-many h r l) e = absurd (omega arith)
-      from (judged-so h r l) e = (h, r, l)
+  verdict-given =
+      (causes every-answer .0, λ p. ap (λ (a : Answer). a .number) (then-verdict (p .0) (p .1) (p .2)))
 
   -- 9 exactly when there are records enough, the text is read, and the reached instances outnumber the room
   pub nine-given : (checked t records words .number ≡ 9) exactly-when
       ((8 ≤ records) × (text-refusal t .number ≡ 0) × (room-of words < length (list t)))
-  unfolding verdict
-  nine-given = (from every-answer, λ p. ap (λ (a : Answer). a .number) (then-room (p .0) (p .1) (p .2)))
-    where
-      from : {a : Answer} → Reply t records words a → a .number ≡ 9
-          → (8 ≤ records) × (text-refusal t .number ≡ 0) × (room-of words < length (list t))
-      from (short-list h) e = absurd (omega arith)
-      from (text-refused h r) e = absurd (omega (arith, refusal-bounded t .0))
-      from (too-many h r l) e = (h, r, l)
-      from (judged-so h r l) e = absurd (omega arith)
+  nine-given = (causes every-answer .1, λ p. ap (λ (a : Answer). a .number) (then-room (p .0) (p .1) (p .2)))
 
   -- with records enough, each number from 1 to 8 exactly when reading gives it
   pub text-number-given : 8 ≤ records → (n : ℕ) → 1 ≤ n → n ≤ 8
