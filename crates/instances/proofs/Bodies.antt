@@ -6,7 +6,7 @@ use Prim.Native.Nat.{ℕ, _+_, _-_, _*_, _≤_, min}
 use native.Mathlib.Decide.{decLe}
 use native.Mathlib.Omega.{arith}
 use lib.ListN.{length, take, drop, length-drop, drop-of-length-le, List·getD-eq-default}
-use lib.Seq.{take-all}
+use lib.Seq.{take-all, take-length, drop-length}
 use borrow.Author.Tests.{le-leb}
 use Rattle.formulas.specs.declared.Equation.{Equation}
 use Rattle.formulas.specs.declared.Tuple.{Tuple}
@@ -21,16 +21,11 @@ use Rattle.evaluator.specs.Replies.{body-value}
 use Rattle.instances.specs.Decoded.{equation-at, body-in}
 use Rattle.instances.specs.Sides.{parsed-in, side-of}
 
-drop-within : (n : ℕ) (l : List ℕ) → drop (min n (length l)) l ≡ drop n l
-drop-within n l = elim (decLe n (length l)) [
-  | yes h ↦ let same : min n (length l) ≡ n = omega arith in rw same
-  | no h ↦ drop-of-length-le l {i = min n (length l)} (omega arith) ∙ sym (drop-of-length-le l {i = n} (omega arith))
-]
-
-take-within : (n : ℕ) (l : List ℕ) → take (min n (length l)) l ≡ take n l
-take-within n l = elim (decLe n (length l)) [
-  | yes h ↦ let same : min n (length l) ≡ n = omega arith in rw same
-  | no h ↦ take-all (min n (length l)) l (omega arith) ∙ sym (take-all n l (omega arith))
+-- what is the same from m on is the same at the smaller of n and m
+at-smaller : {X : Type 0} (g : ℕ → X) (n m : ℕ) → (m ≤ n → g m ≡ g n) → g (min n m) ≡ g n
+at-smaller g n m past = elim (decLe n m) [
+  | yes h ↦ let same : min n m ≡ n = omega arith in rw same
+  | no h ↦ let same : min n m ≡ m = omega arith in rw same (past (omega arith))
 ]
 
 -- the part from `first` on, of as many bytes as are asked for or as are left
@@ -38,7 +33,9 @@ pub part-cut : (l : List ℕ) (place n : ℕ) {first more : ℕ} → first ≡ m
     → take (first + more - first) (drop first l) ≡ take n (drop place l)
 part-cut l place n {first} {more} f m =
     let size : first + more - first ≡ min n (length (drop first l)) = omega (arith, length-drop first l) in
-    rw size (take-within n (drop first l) ∙ rw f (ap (take n) (drop-within place l)))
+    let taken = at-smaller (λ k. take k (drop first l)) n (length (drop first l)) (λ h. take-length _ ∙ sym (take-all n _ h)) in
+    let dropped = at-smaller (λ k. drop k l) place (length l) (λ h. drop-length l ∙ sym (drop-of-length-le l h)) in
+    rw size (taken ∙ rw f (ap (take n) dropped))
 
 module _ (bodies : List ℕ) (equations : List Equation) (table truth : List ℕ) (w : ℕ) {e : ℕ} (is : e ≡ equation-number w) where
   -- there are eight equations: past them nothing is read
