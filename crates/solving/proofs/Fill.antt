@@ -1,16 +1,17 @@
 -- A set filled from number 0 up: `Filling` is kept by a turn that puts number j, or passes it, and says the end.
 -- What is filled below j + 1 differs from what is filled below j at j alone.
 use mathlib.Core.Path.{_≡_, refl, sym, ap, _∙_, fun-ext}
-use mathlib.Core.Bool.{Bool, true, false, cond}
+use mathlib.Core.Bool.{Bool, true, false}
 use mathlib.Core.List.{List}
 use Prim.Native.Nat.{ℕ, _+_, _<_, _≤_}
 use native.Mathlib.Decide.{ℕ-discrete, decLt}
 use native.Mathlib.Omega.{arith}
-use lib.Dec.{eqb, ltb}
+use lib.Dec.{eqb}
 use lib.ListN.{getD}
 use borrow.Author.Tests.{eq-eqb, ne-eqb, lt-ltb, le-ltb}
 use Rattle.formulas.specs.declared.Equation.{Equation}
-use Rattle.truth.specs.Bits.{bit-of, updated}
+use Rattle.truth.specs.Bits.{bit-of, put-in}
+use Rattle.truth.proofs.Bits.{updated-is}
 use Rattle.words.specs.Unpacked.{equation-number}
 use Rattle.instances.specs.Decoded.{equation-at}
 use Rattle.instances.specs.Numbered.{Truths}
@@ -47,14 +48,12 @@ module _ {p new old : Truths} {size j : ℕ} {s : List ℕ} (f : Filling p new o
   module _ (l : j < size) where
     -- number j is put: u has it, and t is the set after the turn
     pub fill-more : size ≤ 512 → {b : Bool} {t u : List ℕ} → p j ≡ true → b ≡ new j
-        → bit-of u ≡ cond (ltb j 512) (updated (bit-of s) j b) (bit-of s) → t ≡ u → Filling p new old size (j + 1) t
-    unfolding filled updated
-    fill-more few q value put same = record {
+        → bit-of u ≡ put-in (bit-of s) j b → t ≡ u → Filling p new old size (j + 1) t
+    unfolding filled
+    fill-more few {b} q value put same = record {
       within = omega arith;
-      below = ap bit-of same ∙ put ∙ rw (lt-ltb j 512 (omega arith), value) (fun-ext λ k. elim (ℕ-discrete k j) [
-        | yes e ↦ rw (e, eq-eqb j j refl, here p j, q)
-        | no n ↦ rw (ne-eqb k j n, ← apart p j k n) (ap (λ (g : Truths). g k) (f .below))
-      ]);
+      below = ap bit-of same ∙ put ∙ rw (lt-ltb j 512 (omega arith)) (sym (updated-is _ (bit-of s) j b
+          (rw (here p j, q) (sym value)) (λ k n. rw (← apart p j k n) (ap (λ (g : Truths). g k) (sym (f .below))))));
     }
 
     -- or it is passed
