@@ -1,6 +1,7 @@
 -- `printing::print_answer` meets its contract.
 -- A short buffer stays, and else what is printed is the text's answer, which fits.
 use mathlib.Core.Path.{refl}
+use native.Mathlib.Omega.{arith}
 use Rattle.printing.proofs.Answered.{printable, printed-is, buffer-stays, buffer-written}
 use borrow.Author.Needs.{needs}
 use Rattle.printing.proofs.print_answer.Statement.{statement}
@@ -9,17 +10,17 @@ use Rattle.printing.proofs.print_answer.Tie as tie
 asked : tie.Need-put-answer-requires
 asked c κs =
     let examined = c .before .before .before in
-    (printable (examined .examine .ensures) refl, examined .before .before .if1 .left)
+    (printable (examined .examine .ensures) refl, omega (arith, examined .before .before .if1 .left))
 
 answered : tie.Need-returns-2
 answered c =
     let put = c .before .before in
     let examined = put .before .before .before .before in
     let is = printed-is (examined .examine .ensures) refl in
-    buffer-written (examined .before .before .if1 .left) (rw is at (put .put-answer .ensures))
+    buffer-written (omega (arith, examined .before .before .if1 .left)) (rw is at (put .put-answer .ensures))
 
 pub print-answer-spec : {M : Type 1} → statement M
 print-answer-spec =
     tie.close
-    (tie.spec (λ c. buffer-stays (c .if1 .taken)) (λ c. search needs) (λ c κs. search needs) (λ c. search needs) asked
+    (tie.spec (λ c. buffer-stays (omega arith)) (λ c. search needs) (λ c κs. search needs) (λ c. search needs) asked
     (λ c. search needs) answered)
