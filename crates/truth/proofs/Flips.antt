@@ -3,7 +3,7 @@
 use mathlib.Core.Path.{_≡_, refl, sym, ap, _∙_}
 use mathlib.Core.Bool.{Bool, true, false, not, Bool·beq, true≢false}
 use mathlib.Core.List.{List}
-use Prim.Native.Nat.{ℕ, zero, suc, _+_, _-_, _/_, _%_, _^_, _<_}
+use Prim.Native.Nat.{ℕ, suc, _+_, _-_, _/_, _%_, _^_, _<_}
 use native.Mathlib.Nat.{mod-lt, div-eq-of-lt, one-mul}
 use native.Mathlib.Decide.{ℕ-discrete, decLt}
 use native.Mathlib.Omega.{arith}
@@ -14,7 +14,7 @@ use lib.ListN.{length, getD, set}
 use lib.Seq.{getD-set-same, getD-set-other}
 use borrow.Author.Tests.{not-true, not-false}
 use Rattle.truth.specs.Bits.{digit, bit-of, updated}
-use Rattle.truth.proofs.Bits.{updated-is, beq-self, beq-eq}
+use Rattle.truth.proofs.Bits.{by-digit, updated-is, beq-self, beq-eq}
 
 -- ---- digits under xor
 digit-xor : (a b m : ℕ) → digit (bitXor a b) m ≡ bitXor (digit a m) (digit b m)
@@ -37,9 +37,7 @@ digit-pow-other k m ne =
     ]
 
 flip-bit : (d : ℕ) → d < 2 → eqb (bitXor d 1) 1 ≡ not (eqb d 1)
-flip-bit zero h = refl
-flip-bit (suc zero) h = refl
-flip-bit (suc (suc d)) h = absurd (omega arith)
+flip-bit = by-digit (λ (n : ℕ). eqb (bitXor n 1) 1 ≡ not (eqb n 1)) refl refl
 
 flip-same : (w k : ℕ) → eqb (digit (bitXor w (2 ^ k)) k) 1 ≡ not (eqb (digit w k) 1)
 flip-same w k =
