@@ -3,17 +3,16 @@
 use mathlib.Core.Path.{_≡_, refl, sym, _∙_, ap}
 use mathlib.Core.List.{List}
 use Prim.Native.Nat.{ℕ, _+_, _-_, _*_, _≤_, min}
-use native.Mathlib.Decide.{decLe}
 use native.Mathlib.Omega.{arith}
 use lib.ListN.{length, take, drop, length-drop, drop-of-length-le, List·getD-eq-default}
-use lib.Seq.{take-all, take-length, drop-length}
+use lib.Seq.{drop-length}
 use borrow.Author.Tests.{le-leb}
 use Rattle.formulas.specs.declared.Equation.{Equation}
 use Rattle.formulas.specs.declared.Tuple.{Tuple}
 use Rattle.formulas.specs.Bodies.{blank}
 use Rattle.formulas.specs.Decode.{formula-at}
 use Rattle.truth.specs.Bits.{bit-of}
-use Rattle.words.specs.Unpacked.{equation-number, argument-tuple, argument-count, argument-items}
+use Rattle.words.specs.Unpacked.{equation-number, argument-tuple, argument-count, argument-items, at-smaller, take-within}
 use Rattle.evaluator.specs.declared.Value.{Value}
 use Rattle.evaluator.specs.declared.Value.the-variants.{False}
 use Rattle.evaluator.specs.Values.{valued, value-in}
@@ -21,21 +20,13 @@ use Rattle.evaluator.specs.Replies.{body-value}
 use Rattle.instances.specs.Decoded.{equation-at, body-in}
 use Rattle.instances.specs.Sides.{parsed-in, side-of}
 
--- what is the same from m on is the same at the smaller of n and m
-at-smaller : {X : Type 0} (g : ℕ → X) (n m : ℕ) → (m ≤ n → g m ≡ g n) → g (min n m) ≡ g n
-at-smaller g n m past = elim (decLe n m) [
-  | yes h ↦ let same : min n m ≡ n = omega arith in rw same
-  | no h ↦ let same : min n m ≡ m = omega arith in rw same (past (omega arith))
-]
-
 -- the part from `first` on, of as many bytes as are asked for or as are left
 pub part-cut : (l : List ℕ) (place n : ℕ) {first more : ℕ} → first ≡ min place (length l) → more ≡ min n (length l - first)
     → take (first + more - first) (drop first l) ≡ take n (drop place l)
 part-cut l place n {first} {more} f m =
     let size : first + more - first ≡ min n (length (drop first l)) = omega (arith, length-drop first l) in
-    let taken = at-smaller (λ k. take k (drop first l)) n (length (drop first l)) (λ h. take-length _ ∙ sym (take-all n _ h)) in
     let dropped = at-smaller (λ k. drop k l) place (length l) (λ h. drop-length l ∙ sym (drop-of-length-le l h)) in
-    rw size (taken ∙ rw f (ap (take n) dropped))
+    rw size (take-within n (drop first l) ∙ rw f (ap (take n) dropped))
 
 module _ (bodies : List ℕ) (equations : List Equation) (table truth : List ℕ) (w : ℕ) {e : ℕ} (is : e ≡ equation-number w) where
   -- there are eight equations: past them nothing is read
