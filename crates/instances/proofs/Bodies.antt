@@ -2,7 +2,7 @@
 -- A part that would end past the list ends with it; a word that names no equation has no body.
 use mathlib.Core.Path.{_≡_, refl, sym, _∙_, ap}
 use mathlib.Core.List.{List}
-use Prim.Native.Nat.{ℕ, _+_, _-_, _*_, _≤_, min}
+use Prim.Native.Nat.{ℕ, _+_, _-_, _≤_, min}
 use native.Mathlib.Omega.{arith}
 use lib.ListN.{length, take, drop, length-drop, drop-of-length-le, List·getD-eq-default}
 use lib.Seq.{drop-length}
@@ -17,7 +17,7 @@ use Rattle.evaluator.specs.declared.Value.{Value}
 use Rattle.evaluator.specs.declared.Value.the-variants.{False}
 use Rattle.evaluator.specs.Values.{valued, value-in}
 use Rattle.evaluator.specs.Replies.{body-value}
-use Rattle.instances.specs.Decoded.{equation-at, body-in}
+use Rattle.instances.specs.Decoded.{equation-at, body-part, body-in}
 use Rattle.instances.specs.Sides.{parsed-in, side-of}
 
 -- the part from `first` on, of as many bytes as are asked for or as are left
@@ -38,7 +38,7 @@ module _ (bodies : List ℕ) (equations : List Equation) (table truth : List ℕ
 
   -- what the evaluator gives for a word's body and arguments is its right side
   pub side-given : {body : List ℕ} {scope : Tuple} {r : Value}
-      → body ≡ take (equation-at equations e .length) (drop (equation-number w * 256) bodies)
+      → body ≡ body-part bodies (equation-number w) (equation-at equations e .length)
       → scope ≡ argument-tuple w (equation-at equations e .k) → r ≡ body-value (value-in table (bit-of truth)) body scope
       → r ≡ side-of bodies equations table (bit-of truth) w
   unfolding side-of parsed-in body-in value-in body-value

@@ -26,7 +26,7 @@ use Rattle.engine.specs.declared.Examined.{Examined}
 use Rattle.engine.specs.Examined.{Examines}
 use Rattle.engine.proofs.ReadModel.{model-is}
 use Rattle.printing.specs.Promise.{Written}
-use Rattle.printing.specs.Lines.{reached-lines, answer-text, Readable, Printable}
+use Rattle.printing.specs.Lines.{reached-lines, answer-text, Printable}
 use Rattle.printing.proofs.Reached.{AllTyped, readable, lines-back}
 use Rattle.printing.proofs.Stores.{lines-short}
 
@@ -64,7 +64,7 @@ module _ {t blank words : List ℕ} {e : Examined} (x : Examines t blank e words
         (lines-back t read (list t) all-typed (answer t 512 .truth) 0 (λ n _. rw (zero-add n) (bits-shown t 512 given n)))
 
   pub printable : Printable words e
-  unfolding Readable verdict
+  unfolding verdict
   printable = record {
     few = λ zero. let n = ap length (x .listed) ∙ table-after-length t blank ∙ long in
         rw (told zero) (few zero, omega (arith, few zero));

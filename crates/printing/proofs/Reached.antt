@@ -23,7 +23,7 @@ use Rattle.answers.specs.Printed.{instance-frame, instance-lines}
 use Rattle.instances.specs.Models.{WellFormedModel}
 use Rattle.instances.proofs.Models.{Typed, word-number, word-names, word-readable}
 use Rattle.engine.proofs.ReadModel.{well-formed-model}
-use Rattle.printing.specs.Lines.{parameters-of, word-frame, word-lines}
+use Rattle.printing.specs.Lines.{parameters-of, word-frame, word-lines, Readable}
 
 -- ---- a text that was read: its instances and their words
 module _ (t : List ℕ) (read : text-refusal t .number ≡ 0) where
@@ -48,8 +48,8 @@ module _ (t : List ℕ) (read : text-refusal t .number ≡ 0) where
   readable-word [] h = never h
   readable-word (e ∷ x) h = word-readable held e x h
 
-  pub readable : (is : List Instance) → AllTyped is → (j : ℕ) → j < length (map word is) → (getD (map word is) j 0 / 65536 < 8)
-      × (parameters-of equations (getD (map word is) j 0) ≤ 4)
+  pub readable : (is : List Instance) → AllTyped is → Readable equations (map word is)
+  unfolding Readable
   readable [] h j less = absurd (omega arith)
   readable (i ∷ is) h zero less = readable-word i (h i (mem-head i is))
   readable (i ∷ is) h (suc j) less = readable is (λ k m. h k (mem-tail k i is m)) j (omega arith)
