@@ -60,68 +60,63 @@ module _ (t : List ℕ) (records words : ℕ) where
       by-records true e = short-list (ltb-true records 8 e)
       by-records false e = by-text (eqb (text-refusal t .number) 0) refl (ltb-false records 8 e)
 
+  -- and a cause has no other answer
+  caused : {a : Answer} → Reply t records words a → checked t records words ≡ a
+  unfolding checked answer judged
+  caused (short-list h) = rw (lt-ltb _ _ h) refl
+  caused (text-refused h r) = rw (le-ltb _ _ h, ne-eqb _ _ r) refl
+  caused (too-many h r l) = rw (le-ltb _ _ h, eq-eqb _ _ r, lt-leb _ _ l) refl
+  caused (judged-so h r l) = rw (le-ltb _ _ h, eq-eqb _ _ r, le-leb _ _ l) refl
+
   -- the order: the short record list
   pub first-short-list : records < 8 → checked t records words ≡ refusal 5 0
-  unfolding checked
-  first-short-list h = rw (lt-ltb records 8 h) refl
+  first-short-list h = caused (short-list h)
 
   -- with eight records or more, the answer hangs on the text and the words lent alone
   pub records-enough : 8 ≤ records → checked t records words ≡ answer t words
   unfolding checked
-  records-enough h = rw (le-ltb records 8 h) refl
+  records-enough h = rw (le-ltb _ _ h) refl
 
   -- then what reading refuses
   pub then-text : 8 ≤ records → (text-refusal t .number ≡ 0 → ⊥)
       → checked t records words ≡ refusal (text-refusal t .number) (text-refusal t .line)
-  unfolding answer
-  then-text h r = records-enough h ∙ rw (ne-eqb (text-refusal t .number) 0 r) refl
+  then-text h r = caused (text-refused h r)
 
   -- then more reached instances than room
   pub then-room : 8 ≤ records → text-refusal t .number ≡ 0 → room-of words < length (list t)
       → checked t records words ≡ refusal 9 0
-  unfolding answer judged
-  then-room h r l = records-enough h ∙ rw (
-    eq-eqb (text-refusal t .number) 0 r,
-    lt-leb (length (list t))
-        (room-of words) l,
-  ) refl
+  then-room h r l = caused (too-many h r l)
 
   -- and where nothing is refused, the verdict
   pub then-verdict : 8 ≤ records → text-refusal t .number ≡ 0 → length (list t) ≤ room-of words
       → checked t records words ≡ verdict t
-  unfolding answer judged
-  then-verdict h r l = records-enough h ∙ rw (
-    eq-eqb (text-refusal t .number) 0 r,
-    le-leb (length (list t))
-        (room-of words) l,
-  ) refl
+  then-verdict h r l = caused (judged-so h r l)
+
+  -- there are records enough, the text is read, and R
+  abbrev ReadWith : Type 0 → Type 0
+  ReadWith R = (8 ≤ records) × (text-refusal t .number ≡ 0) × R
+
+  causes : {a : Answer} → Reply t records words a
+      → (a .number ≡ 0 → ReadWith (length (list t) ≤ room-of words))
+      × (a .number ≡ 9 → ReadWith (room-of words < length (list t)))
+  unfolding verdict
+  causes (short-list h) = ((λ e. absurd (omega arith)), λ e. absurd (omega arith))
+  causes (text-refused h r) = ((λ e. absurd (r e)), λ e. absurd (omega (arith, refusal-bounded t .0)))
+  causes (too-many h r l) = ((λ e. absurd (omega arith)), λ e. (h, r, l))
+  causes (judged-so h r l) = ((λ e. (h, r, l)), λ e. absurd (omega arith))
 
   -- a verdict is given exactly when there are records enough, the text is read, and the reached instances
   -- have room
   pub verdict-given : (checked t records words .number ≡ 0) exactly-when
       ((8 ≤ records) × (text-refusal t .number ≡ 0) × (length (list t) ≤ room-of words))
   unfolding verdict
-  verdict-given = (from every-answer, λ p. ap (λ (a : Answer). a .number) (then-verdict (p .0) (p .1) (p .2)))
-    where
-      from : {a : Answer} → Reply t records words a → a .number ≡ 0
-          → (8 ≤ records) × (text-refusal t .number ≡ 0) × (length (list t) ≤ room-of words)
-      from (short-list h) e = absurd (omega arith)
-      from (text-refused h r) e = absurd (r e)
-      from (too-many h r l) e = absurd (omega arith)
-      from (judged-so h r l) e = (h, r, l)
+  verdict-given =
+      (causes every-answer .0, λ p. ap (λ (a : Answer). a .number) (then-verdict (p .0) (p .1) (p .2)))
 
   -- 9 exactly when there are records enough, the text is read, and the reached instances outnumber the room
   pub nine-given : (checked t records words .number ≡ 9) exactly-when
       ((8 ≤ records) × (text-refusal t .number ≡ 0) × (room-of words < length (list t)))
-  unfolding verdict
-  nine-given = (from every-answer, λ p. ap (λ (a : Answer). a .number) (then-room (p .0) (p .1) (p .2)))
-    where
-      from : {a : Answer} → Reply t records words a → a .number ≡ 9
-          → (8 ≤ records) × (text-refusal t .number ≡ 0) × (room-of words < length (list t))
-      from (short-list h) e = absurd (omega arith)
-      from (text-refused h r) e = absurd (omega (arith, refusal-bounded t .0))
-      from (too-many h r l) e = (h, r, l)
-      from (judged-so h r l) e = absurd (omega arith)
+  nine-given = (causes every-answer .1, λ p. ap (λ (a : Answer). a .number) (then-room (p .0) (p .1) (p .2)))
 
   -- with records enough, each number from 1 to 8 exactly when reading gives it
   pub text-number-given : 8 ≤ records → (n : ℕ) → 1 ≤ n → n ≤ 8
@@ -164,27 +159,20 @@ module _ (t : List ℕ) (records words : ℕ) where
       let p = text-number-given h 1 (omega arith) (omega arith) in
       ((λ e. one-of-long-text t (p .0 e)), λ l. p .1 (ap (λ (r : Refusal). r .number) (long-text-one t l)))
 
+  bounded : {a : Answer} → Reply t records words a → (a .number ≤ 9) × (a .line ≤ 32769)
+  unfolding verdict
+  bounded (short-list h) = (omega arith, omega arith)
+  bounded (text-refused h r) = (omega (arith, refusal-bounded t .0), refusal-bounded t .1)
+  bounded (too-many h r l) = (omega arith, omega arith)
+  bounded (judged-so h r l) = (omega arith, omega arith)
+
   -- there is no other number
   pub number-at-most-9 : checked t records words .number ≤ 9
-  unfolding verdict
-  number-at-most-9 = of every-answer
-    where
-      of : {a : Answer} → Reply t records words a → a .number ≤ 9
-      of (short-list h) = omega arith
-      of (text-refused h r) = omega (arith, refusal-bounded t .0)
-      of (too-many h r l) = omega arith
-      of (judged-so h r l) = omega arith
+  number-at-most-9 = bounded every-answer .0
 
   -- and no line past the one after the last that a text can have
   pub line-at-most-32769 : checked t records words .line ≤ 32769
-  unfolding verdict
-  line-at-most-32769 = of every-answer
-    where
-      of : {a : Answer} → Reply t records words a → a .line ≤ 32769
-      of (short-list h) = omega arith
-      of (text-refused h r) = refusal-bounded t .1
-      of (too-many h r l) = omega arith
-      of (judged-so h r l) = omega arith
+  line-at-most-32769 = bounded every-answer .1
 
   -- "Each answer carries number and line, both 0 on a verdict"
   pub verdict-line : checked t records words .number ≡ 0 → checked t records words .line ≡ 0
@@ -210,54 +198,29 @@ module _ (t : List ℕ) (records words : ℕ) where
       of (judged-so h r l) e = absurd (e refl)
 
 -- ---- the lent table
-module _ (t : List ℕ) (records : ℕ) (table : List ℕ) where
+-- where all of the list has room, all of it is kept
+pub kept-all : (t : List ℕ) (room : ℕ) → length (list t) ≤ room → kept-words t room ≡ map word (list t)
+kept-all t room h = take-all room (map word (list t)) (omega (arith, length-map (list t) word))
+
+module _ (t : List ℕ) (table : List ℕ) where
   abbrev room : ℕ
   room = room-of (length table)
 
-  abbrev number : ℕ
-  number = checked t records (length table) .number
-
   -- what the kept words and the rest of the table are where a text is read
-  kept-table : 8 ≤ records → text-refusal t .number ≡ 0
-      → table-after-check t records table ≡ kept-words t room ++ drop (length (kept-words t room)) table
-  unfolding table-after-check table-after
-  kept-table h r = rw (le-ltb records 8 h, eq-eqb (text-refusal t .number) 0 r) refl
+  kept-table : text-refusal t .number ≡ 0
+      → table-after t table ≡ kept-words t room ++ drop (length (kept-words t room)) table
+  unfolding table-after
+  kept-table r = rw (eq-eqb _ _ r) refl
 
-  -- "Refusals 1 to 8 touch none"; on the short list "nothing is touched"
-  pub table-untouched : (number ≡ 0 → ⊥) → (number ≡ 9 → ⊥) → table-after-check t records table ≡ table
-  unfolding table-after-check table-after verdict
-  table-untouched z n = of (every-answer t records (length table)) z n
-    where
-      of : {a : Answer} → Reply t records (length table) a → (a .number ≡ 0 → ⊥) → (a .number ≡ 9 → ⊥)
-          → table-after-check t records table ≡ table
-      of (short-list h) z n = rw (lt-ltb records 8 h) refl
-      of (text-refused h r) z n = rw (le-ltb records 8 h, ne-eqb (text-refusal t .number) 0 r) refl
-      of (too-many h r l) z n = absurd (n refl)
-      of (judged-so h r l) z n = absurd (z refl)
-
-  -- "Refusal 9 leaves the first instances found, filling the room, the rest untouched"
-  pub table-filled : number ≡ 9 → table-after-check t records table ≡ take room (map word (list t)) ++ drop
-      room table
-  table-filled e =
-      let p = nine-given t records (length table) .0 e in
-      let l : length (kept-words t room) ≡ room = omega
-      (arith, length-take room (map word (list t)), length-map (list t) word, p .2) in
-      kept-table (p .0) (p .1) ∙ ap (λ (k : ℕ). kept-words t room ++ drop k table) l
-
-  -- "On a verdict with n reached, the first n words are the list and the rest is untouched"
-  pub table-listed : number ≡ 0 → table-after-check t records table ≡ map word (list t) ++ drop
-      (length (list t)) table
-  table-listed e =
-      let p = verdict-given t records (length table) .0 e in
-      let k : kept-words t room ≡ map word (list t) = take-all room (map word (list t))
-      (omega (arith, length-map (list t) word, p .2)) in
-      kept-table (p .0) (p .1) ∙ ap (λ (l : List ℕ). l ++ drop (length l) table) k
+  -- the list and the rest, where all of it has room
+  pub listed-table : text-refusal t .number ≡ 0 → length (list t) ≤ room
+      → table-after t table ≡ map word (list t) ++ drop (length (list t)) table
+  listed-table r h = kept-table r ∙ ap (λ (l : List ℕ). l ++ drop (length l) table) (kept-all t room h)
       ∙ ap (λ (n : ℕ). map word (list t) ++ drop n table) (length-map (list t) word)
 
-  -- the table is as long as before
-  pub table-length : length (table-after-check t records table) ≡ length table
-  unfolding table-after-check table-after
-  table-length = by-records (ltb records 8)
+  pub table-after-length : length (table-after t table) ≡ length table
+  unfolding table-after
+  table-after-length = by-text (eqb (text-refusal t .number) 0)
     where
       kept-fits : length (kept-words t room) ≤ length table
       kept-fits = omega (arith, length-take room (map word (list t)))
@@ -268,6 +231,49 @@ module _ (t : List ℕ) (records : ℕ) (table : List ℕ) where
           (sym (length-take-le (length (kept-words t room)) table kept-fits))
       by-text false = refl
 
+module _ (t : List ℕ) (records : ℕ) (table : List ℕ) where
+  abbrev number : ℕ
+  number = checked t records (length table) .number
+
+  -- with eight records or more, the table hangs on the text alone
+  table-enough : 8 ≤ records → table-after-check t records table ≡ table-after t table
+  unfolding table-after-check
+  table-enough h = rw (le-ltb _ _ h) refl
+
+  -- "Refusals 1 to 8 touch none"; on the short list "nothing is touched"
+  pub table-untouched : (number ≡ 0 → ⊥) → (number ≡ 9 → ⊥) → table-after-check t records table ≡ table
+  unfolding table-after-check table-after verdict
+  table-untouched z n = of (every-answer t records (length table)) z n
+    where
+      of : {a : Answer} → Reply t records (length table) a → (a .number ≡ 0 → ⊥) → (a .number ≡ 9 → ⊥)
+          → table-after-check t records table ≡ table
+      of (short-list h) z n = rw (lt-ltb _ _ h) refl
+      of (text-refused h r) z n = rw (le-ltb _ _ h, ne-eqb _ _ r) refl
+      of (too-many h r l) z n = absurd (n refl)
+      of (judged-so h r l) z n = absurd (z refl)
+
+  -- "Refusal 9 leaves the first instances found, filling the room, the rest untouched"
+  pub table-filled : number ≡ 9 → table-after-check t records table
+      ≡ take (room t table) (map word (list t)) ++ drop (room t table) table
+  table-filled e =
+      let p = nine-given t records (length table) .0 e in
+      let kept = kept-words t (room t table) in
+      let full : length kept ≡ room t table = omega
+      (arith, length-take (room t table) (map word (list t)), length-map (list t) word, p .2) in
+      table-enough (p .0) ∙ kept-table t table (p .1) ∙ ap (λ (k : ℕ). kept ++ drop k table) full
+
+  -- "On a verdict with n reached, the first n words are the list and the rest is untouched"
+  pub table-listed : number ≡ 0 → table-after-check t records table
+      ≡ map word (list t) ++ drop (length (list t)) table
+  table-listed e =
+      let p = verdict-given t records (length table) .0 e in
+      table-enough (p .0) ∙ listed-table t table (p .1) (p .2)
+
+  -- the table is as long as before
+  pub table-length : length (table-after-check t records table) ≡ length table
+  unfolding table-after-check
+  table-length = by-records (ltb records 8)
+    where
       by-records : (b : Bool) → length (cond b table (table-after t table)) ≡ length table
       by-records true = refl
-      by-records false = by-text (eqb (text-refusal t .number) 0)
+      by-records false = table-after-length t table

@@ -101,6 +101,12 @@ pub value-is-meaning : (t : List ℕ) (e : ℕ) (x : Args)
 unfolding truth-in
 value-is-meaning t e x = refl
 
+-- what is answered for a text that is read and a list that has room
+pub verdict-answered : (t : List ℕ) (words : ℕ) → text-refusal t .number ≡ 0
+    → length (list t) ≤ room-of words → answer t words ≡ verdict t
+verdict-answered t words r h = sym (records-enough t 8 words (omega arith))
+    ∙ then-verdict t 8 words (omega arith) r h
+
 module _ (t : List ℕ) (words : ℕ) (v : answer t words .number ≡ 0) where
   given : (8 ≤ 8) × (text-refusal t .number ≡ 0) × (length (list t) ≤ room-of words)
   given = verdict-given t 8 words .0 (ap (λ (a : Answer). a .number) (records-enough t 8 words (omega arith))
@@ -114,9 +120,8 @@ module _ (t : List ℕ) (words : ℕ) (v : answer t words .number ≡ 0) where
   pub verdict-room : length (list t) ≤ room-of words
   verdict-room = given .2
 
-  answered : answer t words ≡ verdict t
-  answered = sym (records-enough t 8 words (omega arith))
-      ∙ then-verdict t 8 words (omega arith) verdict-read verdict-room
+  pub answered : answer t words ≡ verdict t
+  answered = verdict-answered t words verdict-read verdict-room
 
   verdict-shown : (e : ℕ) (x : Args) → the-start t ≡ e ∷ x
       → answer t words .verdict ≡ bit (meaning (the-model t) e x)
@@ -143,20 +148,20 @@ module _ (t : List ℕ) (words : ℕ) (v : answer t words .number ≡ 0) where
   unfolding shown-values
   few = omega (arith, length-map (list t) (truth-in (the-model t)), verdict-room)
 
-  bits : (j : ℕ) → bit-of (answer t words .truth) j ≡ getD (shown-values t) j false
+  pub bits-shown : (j : ℕ) → bit-of (answer t words .truth) j ≡ getD (shown-values t) j false
   unfolding verdict
-  bits j = rw answered (ap (λ (f : ℕ → Bool). f j) (truth-words-bits (shown-values t) few))
+  bits-shown j = rw answered (ap (λ (f : ℕ → Bool). f j) (truth-words-bits (shown-values t) few))
 
   -- "instance j is bit j mod 64 of word j div 64": the bit of each listed instance is its value
   pub bit-is-value : (j : ℕ) → j < length (list t)
       → bit-of (answer t words .truth) j ≡ truth-in (the-model t) (getD (list t) j [])
   unfolding shown-values truth-in
-  bit-is-value j h = bits j ∙ List·getD-map (truth-in (the-model t)) (list t) j []
+  bit-is-value j h = bits-shown j ∙ List·getD-map (truth-in (the-model t)) (list t) j []
 
   -- "all other bits are clear"
   pub other-bits-clear : (j : ℕ) → length (list t) ≤ j → bit-of (answer t words .truth) j ≡ false
   unfolding shown-values
-  other-bits-clear j h = bits j ∙ List·getD-eq-default (shown-values t) false
+  other-bits-clear j h = bits-shown j ∙ List·getD-eq-default (shown-values t) false
       (omega (arith, length-map (list t) (truth-in (the-model t))))
 
   -- the reached count is the length of the list

@@ -4,22 +4,21 @@ use Prim.Native.Nat.{ℕ, _≤_, _<_}
 use native.Mathlib.Omega.{arith}
 use mathlib.Core.Path.{_≡_, refl, sym, ap, subst, _∙_}
 use mathlib.Core.Bool.{true}
-use mathlib.Core.List.{List, [], _∷_, map}
-use lib.ListN.{length, getD, length-map}
-use lib.Seq.{take-all}
+use mathlib.Core.List.{List, [], _∷_}
+use lib.ListN.{length, getD}
 use Rattle.meaning.specs.Logic.{Is→eq, eq→Is}
 use Rattle.meaning.specs.Reach.{Instance}
-use Rattle.meaning.specs.Words.{word}
 use Rattle.meaning.specs.Looser.{Looser, looser-holds}
 use Rattle.reading.specs.Reading.{text-refusal}
 use Rattle.reading.proofs.WellFormed.{reading-well-formed}
 use Rattle.truth.specs.Bits.{bit-of}
 use Rattle.answers.specs.declared.Answer.{Answer}
-use Rattle.answers.specs.Answers.{the-model, the-start, list, truth-in, room-of, refusal, verdict}
+use Rattle.answers.specs.Answers.{the-model, the-start, list, truth-in, room-of, verdict}
 use Rattle.answers.specs.Answers.{answer, kept-words, checked}
 use Rattle.answers.specs.Demand1.{_exactly-when_, Reply, short-list, text-refused, too-many, judged-so}
-use Rattle.answers.specs.Demand1.{every-answer, records-enough, then-verdict, nine-given}
-use Rattle.answers.specs.Demand2.{start-first, start-exactly, verdict-read, verdict-room, bit-is-value}
+use Rattle.answers.specs.Demand1.{every-answer, records-enough, nine-given, kept-all}
+use Rattle.answers.specs.Demand2.{start-first, start-exactly, verdict-answered}
+use Rattle.answers.specs.Demand2.{verdict-read, verdict-room, answered, bit-is-value}
 
 -- an answer that holds is a verdict
 holding-is-verdict : (t : List ℕ) (words : ℕ) → answer t words .verdict ≡ 1 → answer t words .number ≡ 0
@@ -64,20 +63,14 @@ module _ (t t′ : List ℕ) (words words′ : ℕ) (l : Looser (the-model t) (t
 module _ (t : List ℕ) (words more : ℕ) (l : words ≤ more) (v : answer t words .number ≡ 0) where
   -- with more room the answer is the same: verdict, counts and truth
   pub more-room-same-answer : answer t more ≡ answer t words
-  more-room-same-answer = to more (omega (arith, verdict-room t words v))
-      ∙ sym (to words (verdict-room t words v))
-    where
-      to : (n : ℕ) → length (list t) ≤ room-of n → answer t n ≡ verdict t
-      to n h = sym (records-enough t 8 n (omega arith))
-          ∙ then-verdict t 8 n (omega arith) (verdict-read t words v) h
+  more-room-same-answer =
+      verdict-answered t more (verdict-read t words v) (omega (arith, verdict-room t words v))
+      ∙ sym (answered t words v)
 
   -- and so are the words of the list
   pub more-room-same-list : kept-words t (room-of more) ≡ kept-words t (room-of words)
-  more-room-same-list = all more (omega (arith, verdict-room t words v))
-      ∙ sym (all words (verdict-room t words v))
-    where
-      all : (n : ℕ) → length (list t) ≤ room-of n → kept-words t (room-of n) ≡ map word (list t)
-      all n h = take-all (room-of n) (map word (list t)) (omega (arith, length-map (list t) word))
+  more-room-same-list = kept-all t (room-of more) (omega (arith, verdict-room t words v))
+      ∙ sym (kept-all t (room-of words) (verdict-room t words v))
 
 -- where no earlier refusal is due, 9 is given exactly when the reached instances outnumber the room
 pub nine-by-room : (t : List ℕ) (words : ℕ) → text-refusal t .number ≡ 0

@@ -2,7 +2,7 @@
 -- Frames in hexadecimal lines, in small letters: one for each reached instance, then the verdict; on refusal
 -- only the refusal.
 use Prim.Native.Nat.{ℕ, _/_, _%_}
-use mathlib.Core.Bool.{true, cond}
+use mathlib.Core.Bool.{cond}
 use mathlib.Core.List.{List, [], _∷_, _++_}
 use lib.Dec.{eqb, leb}
 use lib.ListN.{length, take, drop}

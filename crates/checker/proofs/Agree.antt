@@ -11,10 +11,12 @@ use borrow.Author.Tests.{le-ltb, lt-ltb}
 use Rattle.reading.specs.declared.Model.{Model}
 use Rattle.reading.specs.declared.Reading.{Reading}
 use Rattle.reading.specs.Records.{reading}
-use Rattle.reading.proofs.Finishing.{few, eight-equations}
+use Rattle.reading.proofs.Finishing.{few}
 use Rattle.reading.proofs.WellFormed.{reading-drafted}
 use Rattle.answers.specs.declared.Answer.{Answer}
-use Rattle.answers.specs.Answers.{refusal, answer, checked, table-after, table-after-check}
+use Rattle.answers.specs.Answers.{refusal, checked, table-after-check}
+use Rattle.engine.specs.declared.Examined.{Examined}
+use Rattle.engine.specs.Examined.{Examines}
 use Rattle.checker.specs.declared.Record.{Record}
 use Rattle.checker.specs.declared.Prepared.{Prepared}
 use Rattle.checker.specs.Records.{record-of, records-of, records-after, read-answer}
@@ -70,7 +72,7 @@ module _ {t : List ℕ} {room : ℕ} {p : Prepared} where
         (ap (λ (s : Reading). s .model) is) e;
   }
 
-  -- checking: the list is too short, or the text was examined with the answer a and the model m
+  -- checking: the list is too short, or the text was examined as e
   pub short-check : {table : List ℕ} → room < 8 → (p .answer ≡ refusal 5 0) × (p .count ≡ 0)
       → CheckPrepared t room table p table
   unfolding checked records-after-check table-after-check
@@ -80,12 +82,12 @@ module _ {t : List ℕ} {room : ℕ} {p : Prepared} where
     listed = rw (lt-ltb room 8 short) refl;
   }
 
-  pub long-check : 8 ≤ room → {table left : List ℕ} {a : Answer} {m : Model}
-      → (a ≡ answer t (length table)) × (m ≡ reading t .model) × (left ≡ table-after t table) → p ≡ prepared a m
-      → CheckPrepared t room table p left
+  pub long-check : 8 ≤ room → {table left : List ℕ} {e : Examined} → Examines t table e left
+      → p ≡ prepared (e .answer) (e .model) → CheckPrepared t room table p left
   unfolding checked records-after-check table-after-check
-  long-check wide {table} is e = record {
-    answers = rw (e, is .0, le-ltb room 8 wide) refl;
-    fills = fills t room (λ n. checked t n (length table) .number) wide (rw (is .0, le-ltb room 8 wide) refl) (is .1) e;
-    listed = rw (le-ltb room 8 wide) (is .2);
+  long-check wide {table} is q = record {
+    answers = rw (q, is .answered, le-ltb room 8 wide) refl;
+    fills = fills t room (λ n. checked t n (length table) .number) wide (rw (is .answered, le-ltb room 8 wide) refl)
+        (is .read) q;
+    listed = rw (le-ltb room 8 wide) (is .listed);
   }

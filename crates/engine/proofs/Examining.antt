@@ -4,28 +4,29 @@ use Prim.Native.Nat.{ℕ, _≤_}
 use native.Mathlib.Omega.{arith}
 use mathlib.Core.Path.{_≡_, refl, sym, ap, ap₂, _∙_}
 use mathlib.Core.Bool.{Bool, true, false, cond}
-use mathlib.Core.List.{List, [], _∷_, _++_, map}
+use mathlib.Core.List.{List, _++_, map}
 use lib.Dec.{ltb}
 use lib.ListN.{length, take, drop, getD, length-map, length-append}
-use lib.Seq.{take-all, take-at}
+use lib.Seq.{take-at}
 use borrow.Author.Tests.{ltb-true, ltb-false, le-leb, lt-leb, eq-eqb, ne-eqb}
 use Rattle.meaning.specs.Reach.{Instance}
 use Rattle.meaning.specs.Words.{word}
-use Rattle.meaning.specs.Stages.{stage-start, stage-prefix}
 use Rattle.reading.specs.declared.Model.{Model}
 use Rattle.reading.specs.Contract.{start-from}
 use Rattle.reading.specs.Reading.{text-refusal}
 use Rattle.reading.specs.Records.{reading}
-use Rattle.reading.proofs.WellFormed.{reading-well-formed}
 use Rattle.truth.specs.Words.{truth-words}
 use Rattle.truth.proofs.Words.{truth-words-bits, truth-words-count}
 use Rattle.answers.specs.declared.Answer.{Answer}
 use Rattle.answers.specs.Answers.{the-model, the-start, list, truth-in, shown-values, room-of, kept-words, table-after}
 use Rattle.answers.specs.Answers.{refusal, verdict, judged, answer}
+use Rattle.answers.specs.Demand1.{kept-all}
+use Rattle.answers.specs.Demand2.{start-first}
 use Rattle.finding.specs.declared.Found.{Found}
 use Rattle.finding.specs.Found.{FoundIn, Finds}
 use Rattle.solving.specs.Promise.{Solvable, Solves}
-use Rattle.engine.specs.Examined.{judgement, Judged, ReadFrom}
+use Rattle.engine.specs.declared.Examined.{Examined}
+use Rattle.engine.specs.Examined.{judgement, Judged, ReadFrom, Examines}
 use Rattle.engine.proofs.ReadModel.{model-is, well-formed-model, start-is}
 
 -- what was found in an accepted text: m is the model that was read, `entry` and `exit` are the table before and after
@@ -73,7 +74,7 @@ module _ {t : List ℕ} {m : Model} {bodies entry exit : List ℕ} {w : ℕ} {r 
     fits = ltb-false room (length (list t)) (sym over ∙ h)
 
     all-kept : take room ws ≡ ws
-    all-kept = take-all room ws (omega (arith, length-map (list t) word, fits))
+    all-kept = kept-all t room fits
 
     count-is : r .count ≡ length (list t)
     unfolding list
@@ -101,12 +102,9 @@ module _ {t : List ℕ} {m : Model} {bodies entry exit : List ℕ} {w : ℕ} {r 
     short = omega (arith, length-map (list t) (truth-in (the-model t)), fits)
 
     first-value : getD (shown-values t) 0 false ≡ truth-in (the-model t) (the-start t)
-    unfolding list shown-values
+    unfolding shown-values
     first-value =
-        let well = reading-well-formed t (s .read .accepted) in
-        let first = stage-start (the-model t) (the-start t) well in
-        let p = stage-prefix (the-model t) (the-start t) well [] (the-start t ∷ []) first in
-        ap (λ (l : List Instance). getD (map (truth-in (the-model t)) l) 0 false) (p .1)
+        ap (λ (l : List Instance). getD (map (truth-in (the-model t)) l) 0 false) (start-first t (s .read .accepted) .1)
 
     verdict-is : judgement (length (list t)) (truth-words (shown-values t)) ≡ verdict t
     unfolding verdict
@@ -128,13 +126,17 @@ module _ {t : List ℕ} {m : Model} {bodies entry exit : List ℕ} {w : ℕ} {r 
     }
 
 -- ---- the whole text
-pub examined-refused : (t entry : List ℕ) {a : Answer} → (text-refusal t .number ≡ 0 → ⊥)
-    → a ≡ refusal (text-refusal t .number) (text-refusal t .line) → (a ≡ answer t (length entry)) × (entry ≡ table-after t entry)
+pub examined-refused : {t entry : List ℕ} {e : Examined} → (text-refusal t .number ≡ 0 → ⊥)
+    → e .answer ≡ refusal (text-refusal t .number) (text-refusal t .line) → e .model ≡ reading t .model → Examines t entry e entry
 unfolding answer table-after
-examined-refused t entry h e = (e ∙ rw (ne-eqb (text-refusal t .number) 0 h) refl, rw (ne-eqb (text-refusal t .number) 0 h) refl)
+examined-refused h a m =
+    record { answered = a ∙ rw (ne-eqb _ _ h) refl; read = m; listed = rw (ne-eqb _ _ h) refl }
 
-pub examined-judged : (t entry exit : List ℕ) {a : Answer} → text-refusal t .number ≡ 0 → Judged t entry exit a
-    → (a ≡ answer t (length entry)) × (exit ≡ table-after t entry)
+pub examined-judged : {t bodies entry exit : List ℕ} {e : Examined} → ReadFrom t (e .model) bodies
+    → Judged t entry exit (e .answer) → Examines t entry e exit
 unfolding answer table-after
-examined-judged t entry exit h j =
-    (j .result ∙ rw (eq-eqb (text-refusal t .number) 0 h) refl, j .table ∙ rw (eq-eqb (text-refusal t .number) 0 h) refl)
+examined-judged f j = record {
+  answered = j .result ∙ rw (eq-eqb _ _ (f .accepted)) refl;
+  read = f .records-same;
+  listed = j .table ∙ rw (eq-eqb _ _ (f .accepted)) refl;
+}

@@ -2,14 +2,12 @@
 -- Equation by equation: a body has the bytes of its frame, so the same formula is read in it.
 use Prim.Native.Nat.{ℕ, zero, suc, _+_, _-_, _*_, _≤_, _<_, min}
 use native.Mathlib.Omega.{arith}
-use mathlib.Core.Path.{_≡_, refl, sym, ap, ap₂, subst, _∙_}
-use mathlib.Core.Bool.{Bool, true, cond}
+use mathlib.Core.Path.{_≡_, refl, ap, ap₂, subst, _∙_}
 use mathlib.Core.List.{List, [], _∷_, map}
-use lib.Dec.{eqb, ltb→lt}
 use lib.ListN.{length, getD, take, drop, drop-of-length-le}
 use lib.Seq.{drop-cons}
 use borrow.Author.Tests.{eq-eqb}
-use Rattle.meaning.specs.Logic.{Is, Is→T, and-r, eq→Is}
+use Rattle.meaning.specs.Logic.{Is, and-r, eq→Is}
 use Rattle.meaning.specs.Models.{ModelEquation, Model}
 use Rattle.meaning.specs.Ranges.{signatures, typed}
 use Rattle.meaning.specs.Typed.{within-length}
@@ -18,7 +16,7 @@ use Rattle.frames.specs.Lines.{line-place}
 use Rattle.frames.specs.Frames.{Frame, frames}
 use Rattle.formulas.specs.declared.Equation.{Equation}
 use Rattle.formulas.specs.Decode.{some}
-use Rattle.formulas.specs.Bodies.{blank, found, formula-of, ranges-of}
+use Rattle.formulas.specs.Bodies.{formula-of, ranges-of}
 use Rattle.formulas.proofs.Decoded.{body-whole}
 use Rattle.reading.specs.declared.Model as records
 use Rattle.reading.specs.Contract.{start-from}
@@ -29,9 +27,9 @@ use Rattle.reading.specs.Reading.{text-refusal}
 use Rattle.reading.specs.Records.{equation-record, start-record, model-record, kept, reading}
 use Rattle.reading.proofs.Drafts.{EquationSound, Drafted, no-frame, count-is}
 use Rattle.reading.proofs.Finishing as held
-use Rattle.reading.proofs.WellFormed.{Passed, text-passed, parameters, reading-well-formed, reading-drafted}
+use Rattle.reading.proofs.WellFormed.{text-passed, parameters, reading-well-formed, reading-drafted}
 use Rattle.instances.specs.Decoded.{equation-at, body-in}
-use Rattle.instances.specs.Sides.{parsed-in, formula-in, is-greatest, OneFormula}
+use Rattle.instances.specs.Sides.{parsed-in, is-greatest, OneFormula}
 use Rattle.instances.specs.Models.{equation-in, model-from, model-in, WellFormedModel}
 
 module _ (t : List ℕ) (accepted : text-refusal t .number ≡ 0) where

@@ -11,6 +11,8 @@ use Rattle.engine.specs.Examined.{Examines}
 
 pub one-examine : (text table : List ℕ) {r s : Examined} {xs ys : List ℕ}
     → Examines text table r xs → Examines text table s ys → (r ≡ s) × (xs ≡ ys)
-one-examine text table p q =
-    let both : Answer → Model → Examined = λ a m. record { answer = a; model = m } in
-    (ap₂ both (one-reply (p .0) (q .0)) (one-reply (p .1) (q .1)), one-reply (p .2) (q .2))
+one-examine text table p q = (
+  ap₂ (λ (a : Answer) (m : Model). record { answer = a; model = m })
+      (one-reply (p .answered) (q .answered)) (one-reply (p .read) (q .read)),
+  one-reply (p .listed) (q .listed),
+)

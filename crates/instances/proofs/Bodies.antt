@@ -2,43 +2,31 @@
 -- A part that would end past the list ends with it; a word that names no equation has no body.
 use mathlib.Core.Path.{_≡_, refl, sym, _∙_, ap}
 use mathlib.Core.List.{List}
-use Prim.Native.Nat.{ℕ, _+_, _-_, _*_, _≤_, min}
-use native.Mathlib.Decide.{decLe}
+use Prim.Native.Nat.{ℕ, _+_, _-_, _≤_, min}
 use native.Mathlib.Omega.{arith}
 use lib.ListN.{length, take, drop, length-drop, drop-of-length-le, List·getD-eq-default}
-use lib.Seq.{take-all}
+use lib.Seq.{drop-length}
 use borrow.Author.Tests.{le-leb}
 use Rattle.formulas.specs.declared.Equation.{Equation}
 use Rattle.formulas.specs.declared.Tuple.{Tuple}
 use Rattle.formulas.specs.Bodies.{blank}
 use Rattle.formulas.specs.Decode.{formula-at}
 use Rattle.truth.specs.Bits.{bit-of}
-use Rattle.words.specs.Unpacked.{equation-number, argument-tuple, argument-count, argument-items}
+use Rattle.words.specs.Unpacked.{equation-number, argument-tuple, argument-count, argument-items, at-smaller, take-within}
 use Rattle.evaluator.specs.declared.Value.{Value}
 use Rattle.evaluator.specs.declared.Value.the-variants.{False}
 use Rattle.evaluator.specs.Values.{valued, value-in}
 use Rattle.evaluator.specs.Replies.{body-value}
-use Rattle.instances.specs.Decoded.{equation-at, body-in}
+use Rattle.instances.specs.Decoded.{equation-at, body-part, body-in}
 use Rattle.instances.specs.Sides.{parsed-in, side-of}
-
-drop-within : (n : ℕ) (l : List ℕ) → drop (min n (length l)) l ≡ drop n l
-drop-within n l = elim (decLe n (length l)) [
-  | yes h ↦ let same : min n (length l) ≡ n = omega arith in rw same
-  | no h ↦ drop-of-length-le l {i = min n (length l)} (omega arith) ∙ sym (drop-of-length-le l {i = n} (omega arith))
-]
-
-take-within : (n : ℕ) (l : List ℕ) → take (min n (length l)) l ≡ take n l
-take-within n l = elim (decLe n (length l)) [
-  | yes h ↦ let same : min n (length l) ≡ n = omega arith in rw same
-  | no h ↦ take-all (min n (length l)) l (omega arith) ∙ sym (take-all n l (omega arith))
-]
 
 -- the part from `first` on, of as many bytes as are asked for or as are left
 pub part-cut : (l : List ℕ) (place n : ℕ) {first more : ℕ} → first ≡ min place (length l) → more ≡ min n (length l - first)
     → take (first + more - first) (drop first l) ≡ take n (drop place l)
 part-cut l place n {first} {more} f m =
     let size : first + more - first ≡ min n (length (drop first l)) = omega (arith, length-drop first l) in
-    rw size (take-within n (drop first l) ∙ rw f (ap (take n) (drop-within place l)))
+    let dropped = at-smaller (λ k. drop k l) place (length l) (λ h. drop-length l ∙ sym (drop-of-length-le l h)) in
+    rw size (take-within n (drop first l) ∙ rw f (ap (take n) dropped))
 
 module _ (bodies : List ℕ) (equations : List Equation) (table truth : List ℕ) (w : ℕ) {e : ℕ} (is : e ≡ equation-number w) where
   -- there are eight equations: past them nothing is read
@@ -50,7 +38,7 @@ module _ (bodies : List ℕ) (equations : List Equation) (table truth : List ℕ
 
   -- what the evaluator gives for a word's body and arguments is its right side
   pub side-given : {body : List ℕ} {scope : Tuple} {r : Value}
-      → body ≡ take (equation-at equations e .length) (drop (equation-number w * 256) bodies)
+      → body ≡ body-part bodies (equation-number w) (equation-at equations e .length)
       → scope ≡ argument-tuple w (equation-at equations e .k) → r ≡ body-value (value-in table (bit-of truth)) body scope
       → r ≡ side-of bodies equations table (bit-of truth) w
   unfolding side-of parsed-in body-in value-in body-value

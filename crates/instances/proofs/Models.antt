@@ -1,18 +1,17 @@
 -- What stands at number e of the model of decoded bodies, and which instance a word names in it.
 -- The model is made equation by equation; of a well-formed one the word of an instance says its equation and its arguments.
-use Prim.Native.Nat.{ℕ, zero, suc, _+_, _<_}
+use Prim.Native.Nat.{ℕ, zero, suc, _+_, _<_, _≤_}
 use native.Mathlib.Omega.{arith}
 use mathlib.Core.Path.{_≡_, refl, sym, ap, _∙_}
 use mathlib.Core.Bool.{false}
 use mathlib.Core.List.{List, [], _∷_}
-use lib.Dec.{ltb→lt}
 use lib.ListN.{length, getD, List·getD-map}
-use Rattle.meaning.specs.Logic.{Is, and-l, Is→T}
+use Rattle.meaning.specs.Logic.{Is}
 use Rattle.meaning.specs.Formulas.{constant}
 use Rattle.meaning.specs.Models.{ModelEquation, Model}
 use Rattle.meaning.specs.Ranges.{signatures, typed}
 use Rattle.meaning.specs.Reach.{Instance, body-of}
-use Rattle.meaning.specs.Typed.{signatures-length}
+use Rattle.meaning.specs.Typed.{typed-equation, well-formed-count, signatures-length, ranges-count}
 use Rattle.meaning.specs.Words.{word}
 use Rattle.meaning.specs.WordLaws.{typed-length, word-equation, word-arguments}
 use Rattle.formulas.specs.declared.Equation.{Equation}
@@ -72,11 +71,15 @@ module _ {bodies : List ℕ} {equations : List Equation} {count : ℕ} {start : 
   abbrev pub Typed : Instance → Type 0
   Typed i = Is (typed (signatures typed-model) i)
 
+  pub few-equations : count ≤ 8
+  few-equations = omega (arith, well-formed-count typed-model start (m .well), model-length bodies equations count 0)
+
   module _ (e : ℕ) (x : List ℕ) (t : Typed (e ∷ x)) where
+    there-is : e < length (signatures typed-model)
+    there-is = typed-equation (signatures typed-model) e x t
+
     pub typed-below : e < count
-    unfolding typed
-    typed-below =
-        omega (arith, ltb→lt e _ (Is→T (and-l _ _ t)), signatures-length typed-model, model-length bodies equations count 0)
+    typed-below = omega (arith, there-is, signatures-length typed-model, model-length bodies equations count 0)
 
     pub word-number : equation-number (word (e ∷ x)) ≡ e
     word-number = word-equation typed-model start (m .well) e x t
@@ -87,3 +90,10 @@ module _ {bodies : List ℕ} {equations : List Equation} {count : ℕ} {start : 
 
     pub word-names : arguments-in equations (word (e ∷ x)) ≡ x
     word-names = rw (word-number, parameters) (word-arguments typed-model start (m .well) e x t)
+
+    -- its equation is one of eight, with at most four parameters
+    pub word-readable : (equation-number (word (e ∷ x)) < 8) × (equation-at equations (equation-number (word (e ∷ x))) .k ≤ 4)
+    word-readable =
+        let arguments = typed-length typed-model start (m .well) e x t in
+        let few = ranges-count typed-model start (m .well) e there-is in
+        rw word-number (omega (arith, typed-below, few-equations), omega (arith, parameters))

@@ -10,6 +10,10 @@ use Rattle.formulas.specs.Bodies.{blank}
 abbrev pub equation-at : List Equation → ℕ → Equation
 equation-at equations e = getD equations e blank
 
+-- n bytes from the place of equation number e on
+abbrev pub body-part : List ℕ → ℕ → ℕ → List ℕ
+body-part bodies e n = take n (drop (e * 256) bodies)
+
 -- the decoded body of equation number e
 unfoldable pub body-in : List ℕ → List Equation → ℕ → List ℕ
-body-in bodies equations e = take (equation-at equations e .length) (drop (e * 256) bodies)
+body-in bodies equations e = body-part bodies e (equation-at equations e .length)

@@ -1,20 +1,19 @@
 -- ONE REPLY: for each public function two results that its contract allows are equal.
 -- Each contract is an equation of the result.
-use Prim.Native.Nat.{ℕ, _*_}
+use Prim.Native.Nat.{ℕ}
 use mathlib.Core.Path.{_≡_}
 use mathlib.Core.Bool.{Bool}
 use mathlib.Core.List.{List}
-use lib.ListN.{take, drop}
 use Rattle.meaning.specs.OneReply.{one-reply}
 use Rattle.formulas.specs.declared.Equation.{Equation}
 use Rattle.truth.specs.Bits.{bit-of}
 use Rattle.words.specs.Unpacked.{equation-number}
 use Rattle.evaluator.specs.declared.Value.{Value}
+use Rattle.instances.specs.Decoded.{body-part}
 use Rattle.instances.specs.Sides.{is-true, side-of}
 
 pub one-body-of : (bodies : List ℕ) (w n : ℕ) {r s : List ℕ}
-    → r ≡ take n (drop (equation-number w * 256) bodies) → s ≡ take n (drop (equation-number w * 256) bodies)
-    → r ≡ s
+    → r ≡ body-part bodies (equation-number w) n → s ≡ body-part bodies (equation-number w) n → r ≡ s
 one-body-of bodies w n = one-reply
 
 pub one-is-true : (value : Value) {r s : Bool} → r ≡ is-true value → s ≡ is-true value → r ≡ s

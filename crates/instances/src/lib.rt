@@ -1,17 +1,16 @@
 // The numbered system of a model's instances: the bodies of its equations, what a word names among them, and
 // the right side of a word's instance in a set of instances.
 ghost use mathlib.Core.Path.{_≡_};
-ghost use Prim.Native.Nat.{_*_};
-ghost use lib.ListN.{take, drop};
 ghost use Rattle.truth.specs.Bits.{bit-of};
 ghost use Rattle.words.specs.Unpacked.{equation-number};
+ghost use Rattle.instances.specs.Decoded.{body-part};
 ghost use Rattle.instances.specs.Sides.{is-true, side-of};
 use evaluator::Value;
 use formulas::Equation;
 
 // The decoded body of the equation that a word names: the first `length` bytes from its place on.
 pub fn body_of(bodies: &[u8], w: u32, length: usize) -> &[u8]
-    ensures { λ r. ⌜ now r ≡ take length (drop (equation-number w * 256) (now (bodies .entry))) ⌝ }
+    ensures { λ r. ⌜ now r ≡ body-part (now (bodies .entry)) (equation-number w) length ⌝ }
 {
     let first = basics::smaller(words::equation_of(w) * 256, bodies.len());
     let end = first + basics::smaller(length, bodies.len() - first);

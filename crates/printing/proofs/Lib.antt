@@ -1,4 +1,3 @@
 pub mod Answered
-pub mod Heads
 pub mod Reached
 pub mod Stores

@@ -2,7 +2,7 @@
 -- records.
 -- That these are the lines of the text's answer is shown in proofs/Answered.
 use mathlib.Core.Path.{_≡_}
-use Prim.Native.Nat.{ℕ, suc, _+_, _/_, _≤_, _<_}
+use Prim.Native.Nat.{ℕ, suc, _/_, _≤_, _<_}
 use mathlib.Core.Bool.{Bool, cond}
 use mathlib.Core.List.{List, [], _∷_, _++_}
 use lib.Dec.{eqb}
@@ -24,21 +24,26 @@ bytes-of f = take (f .count) (f .bytes)
 abbrev pub parameters-of : List Equation → ℕ → ℕ
 parameters-of equations w = getD equations (w / 65536) blank .k
 
--- the frame of a word whose equation has k parameters
-unfoldable pub word-frame : ℕ → ℕ → Bool → List ℕ
-word-frame k w value = 0x04 ∷ w / 65536 ∷ (arguments-of k w ++ (bit value ∷ []))
+-- the frame of a word: its equation, as many arguments as that has parameters, and the value
+unfoldable pub word-frame : List Equation → ℕ → Bool → List ℕ
+word-frame equations w value =
+    0x04 ∷ w / 65536 ∷ (arguments-of (parameters-of equations w) w ++ (bit value ∷ []))
 
 -- the lines of the words from number j on
 unfoldable pub word-lines : List Equation → List ℕ → ℕ → List ℕ → List ℕ
 word-lines equations truth j [] = []
-word-lines equations truth j (w ∷ ws) = line-of
-    (word-frame (parameters-of equations w) w (bit-of truth j)) ++ word-lines equations truth (suc j) ws
+word-lines equations truth j (w ∷ ws) =
+    line-of (word-frame equations w (bit-of truth j)) ++ word-lines equations truth (suc j) ws
+
+-- the lines of the reached instances
+abbrev pub reached-lines : List ℕ → Examined → List ℕ
+reached-lines words e =
+    word-lines (e .model .equations) (e .answer .truth) 0 (take (e .answer .reached) words)
 
 unfoldable pub answer-text : List ℕ → Examined → List ℕ
 answer-text words e =
     cond (eqb (e .answer .number) 0)
-    (word-lines (e .model .equations) (e .answer .truth) 0 (take (e .answer .reached) words) ++ line-of
-    (verdict-frame (e .answer)))
+    (reached-lines words e ++ line-of (verdict-frame (e .answer)))
     (line-of (refusal-frame (e .answer)))
 
 -- every word is that of an equation, which has at most four parameters

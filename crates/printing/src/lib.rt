@@ -75,7 +75,7 @@ fn put_frame(out: &mut [u8], at: usize, frame: Frame) -> usize
 
 fn instance_frame(equations: [Equation; 8], word: u32, value: bool) -> Frame
     requires { ⌜ (word / 65536 < 8) × (parameters-of equations word ≤ 4) ⌝ }
-    ensures { λ r. ⌜ (bytes-of r ≡ word-frame (parameters-of equations word) word value) ×
+    ensures { λ r. ⌜ (bytes-of r ≡ word-frame equations word value) ×
         (r .count ≡ parameters-of equations word + 3) ⌝ }
 {
     let e = words::equation_of(word);

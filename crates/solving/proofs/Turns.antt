@@ -1,7 +1,7 @@
 -- What the loop of `solve` computes is the definition's turns, whether it stops early or not.
 -- Once a turn changes nothing, no later one does; and a turn leaves the later equations at their first candidates.
 use mathlib.Core.Path.{_≡_, refl, sym, ap, _∙_, fun-ext}
-use mathlib.Core.Bool.{Bool, true, false, true≢false, false≢true, cond, _&&_}
+use mathlib.Core.Bool.{Bool, true, false, true≢false, cond, _&&_, and-eq-true-iff}
 use mathlib.Core.List.{List}
 use Prim.Native.Nat.{ℕ, zero, suc, _+_, _-_, _<_, _≤_}
 use native.Mathlib.Decide.{ℕ-discrete}
@@ -147,10 +147,6 @@ module _ (S : Numbered) where
       solved-same left (suc e) _ _ (turns-same left e (solved S left (suc e)) (solved-same left (suc e)) v w h (S .size))
 
 -- ---- the system of a table of words
-both : (a b : Bool) → (a && b) ≡ true → (a ≡ true) × (b ≡ true)
-both true b h = (refl, h)
-both false b h = absurd (false≢true h)
-
 module _ (bodies : List ℕ) (equations : List Equation) (table : List ℕ) where
   abbrev S : Numbered
   S = numbered-system bodies equations table
@@ -163,7 +159,7 @@ module _ (bodies : List ℕ) (equations : List Equation) (table : List ℕ) wher
   of-named : (e j : ℕ) → S .of e j ≡ true → (ltb j (length table) ≡ true) × (e ≡ equation-number (getD table j 0))
   unfolding numbered-system among-first names
   of-named e j p =
-      let b = both (ltb j (length table)) (eqb e (equation-number (getD table j 0))) p in
+      let b = and-eq-true-iff (ltb j (length table)) (eqb e (equation-number (getD table j 0))) .0 p in
       (b .0, eqb-true e (equation-number (getD table j 0)) (b .1))
 
   pub system-divided : Divided S

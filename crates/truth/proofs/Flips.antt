@@ -1,19 +1,20 @@
 -- A set with one bit turned over, as `put` does it: digit m of `w xor 2 ^ k` is that of w, but turned over where m is k.
 -- One law of a number's digits under xor gives both, with no induction.
-use mathlib.Core.Path.{_≡_, refl, sym, ap, _∙_, subst, fun-ext}
-use mathlib.Core.Bool.{Bool, true, false, not, Bool·beq}
+use mathlib.Core.Path.{_≡_, refl, sym, ap, _∙_}
+use mathlib.Core.Bool.{Bool, true, false, not, Bool·beq, true≢false}
 use mathlib.Core.List.{List}
-use Prim.Native.Nat.{ℕ, zero, suc, _+_, _-_, _/_, _%_, _^_, _<_}
+use Prim.Native.Nat.{ℕ, suc, _+_, _-_, _/_, _%_, _^_, _<_}
 use native.Mathlib.Nat.{mod-lt, div-eq-of-lt, one-mul}
 use native.Mathlib.Decide.{ℕ-discrete, decLt}
 use native.Mathlib.Omega.{arith}
-use lib.Dec.{eqb, T}
+use lib.Dec.{eqb}
 use lib.Bits.{bitXor, xor-shr, xor-mod, xor-zero-r, shifted-even}
 use lib.Pow.{pow-pos, pow-lt, pow-add, shl-shr}
 use lib.ListN.{length, getD, set}
 use lib.Seq.{getD-set-same, getD-set-other}
-use borrow.Author.Tests.{eq-eqb, ne-eqb}
+use borrow.Author.Tests.{not-true, not-false}
 use Rattle.truth.specs.Bits.{digit, bit-of, updated}
+use Rattle.truth.proofs.Bits.{by-digit, updated-is, beq-self, beq-eq}
 
 -- ---- digits under xor
 digit-xor : (a b m : ℕ) → digit (bitXor a b) m ≡ bitXor (digit a m) (digit b m)
@@ -36,9 +37,7 @@ digit-pow-other k m ne =
     ]
 
 flip-bit : (d : ℕ) → d < 2 → eqb (bitXor d 1) 1 ≡ not (eqb d 1)
-flip-bit zero h = refl
-flip-bit (suc zero) h = refl
-flip-bit (suc (suc d)) h = absurd (omega arith)
+flip-bit = by-digit (λ (n : ℕ). eqb (bitXor n 1) 1 ≡ not (eqb n 1)) refl refl
 
 flip-same : (w k : ℕ) → eqb (digit (bitXor w (2 ^ k)) k) 1 ≡ not (eqb (digit w k) 1)
 flip-same w k =
@@ -76,29 +75,16 @@ not-is false true f = refl
 not-is false false f = absurd (f refl)
 
 pub beq-same : (a b : Bool) → not (Bool·beq a b) ≡ false → a ≡ b
-beq-same true true e = refl
-beq-same true false e = e
-beq-same false true e = sym e
-beq-same false false e = refl
+beq-same a b e = beq-eq a b (not-false _ e)
 
 pub beq-other : (a b : Bool) → not (Bool·beq a b) ≡ true → a ≡ b → ⊥
-beq-other true true e q = subst T (sym e) tt
-beq-other true false e q = subst T q tt
-beq-other false true e q = subst T (sym q) tt
-beq-other false false e q = subst T (sym e) tt
+beq-other a b e q = true≢false (sym (beq-self b) ∙ ap (λ (x : Bool). Bool·beq x b) (sym q) ∙ not-true _ e)
 
 -- ---- what `put` does, where the bit is wrong and where it is right
 pub put-flips : (ws : List ℕ) (j : ℕ) (b : Bool) → j / 64 < length ws → (bit-of ws j ≡ b → ⊥)
     → bit-of (flipped ws j) ≡ updated (bit-of ws) j b
-unfolding updated
-put-flips ws j b h ne = fun-ext λ k. elim (ℕ-discrete k j) [
-  | yes e ↦ rw (e, eq-eqb j j refl) (flipped-same ws j h ∙ not-is (bit-of ws j) b ne)
-  | no n ↦ rw (ne-eqb k j n) (flipped-other ws j k h n)
-]
+put-flips ws j b h ne =
+    updated-is _ _ j b (flipped-same ws j h ∙ not-is (bit-of ws j) b ne) (λ k n. flipped-other ws j k h n)
 
 pub put-keeps : (f : ℕ → Bool) (j : ℕ) (b : Bool) → f j ≡ b → f ≡ updated f j b
-unfolding updated
-put-keeps f j b e = fun-ext λ k. elim (ℕ-discrete k j) [
-  | yes q ↦ rw (q, eq-eqb j j refl) e
-  | no n ↦ rw (ne-eqb k j n) refl
-]
+put-keeps f j b e = updated-is f f j b e (λ k n. refl)

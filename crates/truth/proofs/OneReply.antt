@@ -1,12 +1,11 @@
 -- ONE REPLY: for each public function two results that its contract allows are equal.
 -- A set is eight words of 64 bits, as its type says: sets with the same bits are the same words.
-use Prim.Native.Nat.{ℕ, _≤_}
+use Prim.Native.Nat.{ℕ}
 use mathlib.Core.Path.{_≡_, ap}
-use mathlib.Core.Bool.{Bool, cond}
+use mathlib.Core.Bool.{Bool}
 use mathlib.Core.List.{List}
-use lib.Dec.{ltb}
 use Rattle.meaning.specs.OneReply.{one-reply}
-use Rattle.truth.specs.Bits.{bit-of, updated, nowhere, same-below, count-below}
+use Rattle.truth.specs.Bits.{bit-of, put-in, nowhere, same-below, Counts}
 use Rattle.truth.proofs.Bits.{Eight, words-unique}
 
 -- one set has the bits that f says
@@ -21,14 +20,12 @@ pub one-has : (t : List ℕ) (j : ℕ) {r s : Bool} → r ≡ bit-of t j → s �
 one-has t j = one-reply
 
 pub one-put : (t : List ℕ) (j : ℕ) (b : Bool) {r s : List ℕ} → Eight r → Eight s
-    → bit-of r ≡ cond (ltb j 512) (updated (bit-of t) j b) (bit-of t)
-    → bit-of s ≡ cond (ltb j 512) (updated (bit-of t) j b) (bit-of t) → r ≡ s
+    → bit-of r ≡ put-in (bit-of t) j b → bit-of s ≡ put-in (bit-of t) j b → r ≡ s
 one-put t j b = one-set
 
 pub one-same : (a b : List ℕ) {r s : Bool}
     → r ≡ same-below 512 (bit-of a) (bit-of b) → s ≡ same-below 512 (bit-of a) (bit-of b) → r ≡ s
 one-same a b = one-reply
 
-pub one-count : (t : List ℕ) {r s : ℕ}
-    → (r ≡ count-below 512 (bit-of t)) × (r ≤ 512) → (s ≡ count-below 512 (bit-of t)) × (s ≤ 512) → r ≡ s
+pub one-count : (t : List ℕ) {r s : ℕ} → Counts t r → Counts t s → r ≡ s
 one-count t p q = one-reply (p .0) (q .0)

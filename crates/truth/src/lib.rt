@@ -1,9 +1,6 @@
 // A set of at most 512 instances, in eight words: instance j is bit j % 64 of word j / 64.
 ghost use mathlib.Core.Path.{_≡_};
-ghost use mathlib.Core.Bool.{cond};
-ghost use Prim.Native.Nat.{_≤_};
-ghost use lib.Dec.{ltb};
-ghost use Rattle.truth.specs.Bits.{bit-of, updated, nowhere, same-below, count-below};
+ghost use Rattle.truth.specs.Bits.{bit-of, put-in, nowhere, same-below, Counts};
 
 // The empty set.
 pub fn none() -> [u64; 8]
@@ -24,7 +21,7 @@ pub fn has(t: [u64; 8], j: usize) -> bool
 
 // The set with instance j in it or not, as b says: a number from 512 on leaves the set.
 pub fn put(t: [u64; 8], j: usize, b: bool) -> [u64; 8]
-    ensures { λ r. ⌜ bit-of r ≡ cond (ltb j 512) (updated (bit-of t) j b) (bit-of t) ⌝ }
+    ensures { λ r. ⌜ bit-of r ≡ put-in (bit-of t) j b ⌝ }
 {
     let mut s = t;
     if 512 <= j {
@@ -52,7 +49,7 @@ pub fn same(a: [u64; 8], b: [u64; 8]) -> bool
 
 // How many instances are in the set: the number of set bits.
 pub fn count(t: [u64; 8]) -> usize
-    ensures { λ r. ⌜ (r ≡ count-below 512 (bit-of t)) × (r ≤ 512) ⌝ }
+    ensures { λ r. ⌜ Counts t r ⌝ }
 {
     let mut n: usize = 0;
     let mut word: usize = 0;

@@ -6,8 +6,8 @@ use borrow.Author.Needs.{needs}
 use Rattle.basics.proofs.element.Statement.{statement}
 use Rattle.basics.proofs.element.Tie as tie
 
-returns-2 : tie.Need-returns-2
-returns-2 c = sym (List·getD-eq-default (c .before .args .list .now) 0 (c .if1 .left))
-
 pub element-spec : {M : Type 1} → statement M
-element-spec = tie.close (tie.spec (λ c. search needs) (λ c. search needs) returns-2)
+element-spec =
+    tie.close
+    (tie.spec (λ c. search needs) (λ c. search needs)
+    (λ c. sym (List·getD-eq-default (c .before .args .list .now) 0 (c .if1 .left))))

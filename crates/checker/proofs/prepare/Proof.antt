@@ -6,11 +6,8 @@ use borrow.Author.Needs.{needs}
 use Rattle.checker.proofs.prepare.Statement.{statement}
 use Rattle.checker.proofs.prepare.Tie as tie
 
-refused : tie.Need-returns
-refused c = rw (c .before .before .records-of .ensures, ne-eqb _ _ (c .if1 .taken)) refl
-
-accepted : tie.Need-returns-2
-accepted c = rw (c .before .before .records-of .ensures, eq-eqb _ _ (c .if1 .left)) refl
-
 pub prepare-spec : {M : Type 1} → statement M
-prepare-spec = tie.close (tie.spec (λ c κs. search needs) refused accepted)
+prepare-spec =
+    tie.close
+    (tie.spec (λ c κs. search needs) (λ c. rw (c .before .before .records-of .ensures, ne-eqb _ _ (c .if1 .taken)) refl)
+    (λ c. rw (c .before .before .records-of .ensures, eq-eqb _ _ (c .if1 .left)) refl))

@@ -16,10 +16,11 @@ past c =
 
 there : tie.Need-returns-2
 there c =
-    let e = c .before .before .before .before .before in
+    let body = c .before .before in
+    let e = body .before .before .before in
     let a = e .before .before .before .args in
     side-given (a .bodies .now) (a .t2) (a .table .now) (a .truth .now) (a .w) (e .equation-of .ensures)
-    (c .before .before .body-of .ensures) (c .before .arguments-of .ensures) (c .evaluate .ensures)
+    (body .body-of .ensures) (c .before .arguments-of .ensures) (c .evaluate .ensures)
 
 pub right-side-spec : {M : Type 1} → statement M
 right-side-spec =

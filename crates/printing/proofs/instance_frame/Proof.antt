@@ -30,8 +30,8 @@ module _ (c : tie.After-arguments-of) where
 returns : tie.Need-returns
 returns c =
     let s = c .before in
-    frame-stored (start s .args .word) _ (start s .args .value) (s .before .before .equation-of .ensures) (unpacked s)
-    (start s .pre .1)
+    let a = start s .args in
+    frame-stored (a .t1) (a .word) (a .value) (s .before .before .equation-of .ensures) (unpacked s) (start s .pre .1)
 
 pub instance-frame-spec : {M : Type 1} → statement M
 instance-frame-spec =

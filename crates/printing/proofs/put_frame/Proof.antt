@@ -14,19 +14,15 @@ prefix c =
     let eight : length (c .before .before .before .args .frame .bytes) ≡ 8 = search needs in
     omega arith
 
-taken : tie.Need-slice-aggregate-put-line
-taken c =
-    let f = c .before .before .before .before .args .frame in
-    let eight : length (f .bytes) ≡ 8 = search needs in
-    sym (length-take-le (f .count) (f .bytes) (omega arith))
-
 written : tie.Need-returns
 written c =
-    let a = c .before .before .before .before .before .before .before .args in
-    let eight : length (a .frame .bytes) ≡ 8 = search needs in
-    let n = length-take-le (a .frame .count) (a .frame .bytes) (omega arith) in
-    line-puts (a .out .now) (a .at) (take (a .frame .count) (a .frame .bytes)) (omega arith)
-    (c .before .before .put-line .ensures)
+    let put = c .before .before in
+    let cut = put .before .before in
+    let a = cut .before .before .before .args in
+    let n = length-take-le (a .frame .count) (a .frame .bytes) (prefix cut) in
+    line-puts (a .out .now) (a .at) (take (a .frame .count) (a .frame .bytes)) (omega arith) (put .put-line .ensures)
 
 pub put-frame-spec : {M : Type 1} → statement M
-put-frame-spec = tie.close (tie.spec prefix taken (λ c κs. search needs) (λ c. search needs) written)
+put-frame-spec =
+    tie.close
+    (tie.spec prefix (λ c. sym (length-take-le _ _ (prefix (c .before)))) (λ c κs. search needs) (λ c. search needs) written)

@@ -7,18 +7,9 @@ use native.Mathlib.Omega.{arith}
 use Rattle.samples.proofs.answer_first.Statement.{statement}
 use Rattle.samples.proofs.answer_first.Tie as tie
 
-slice-aggregate-answer : tie.Need-slice-aggregate-answer
-slice-aggregate-answer c =
-    let a = c .before .before .before .args in
-    sym (length-take-le (c .before .smaller .result) (a .buffer .now) (omega (arith, c .before .smaller .ensures)))
-
 pub answer-first-spec : {M : Type 1} → statement M
 answer-first-spec =
     tie.close
-    (tie.spec
-    (λ c κs. search needs)
-    (λ c. search needs)
-    slice-aggregate-answer
-    (λ c κs. search needs)
-    (λ c. search needs)
+    (tie.spec (λ c κs. search needs) (λ c. search needs)
+    (λ c. sym (length-take-le _ _ (omega (arith, c .before .smaller .ensures)))) (λ c κs. search needs) (λ c. search needs)
     (λ c. search needs))

@@ -14,13 +14,5 @@ abbrev μ-loop : tie.MeasureT-loop
 pub main-spec : {M : Type 1} → statement M
 main-spec =
     tie.close
-    (tie.spec
-    Inv-loop
-    μ-loop
-    (λ c. omega arith)
-    (λ c κs. tt)
-    (λ c. tt)
-    (λ c. omega arith)
-    (λ c. omega arith)
-    (λ c. omega arith)
-    (λ c. tt))
+    (tie.spec Inv-loop μ-loop (λ c. omega arith) (λ c κs. tt) (λ c. tt) (λ c. omega arith) (λ c. omega arith)
+    (λ c. omega arith) (λ c. tt))

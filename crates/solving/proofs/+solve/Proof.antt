@@ -40,20 +40,17 @@ module _ (t : ℕ) where
   abbrev calls : lts.Claims
   calls = (Below, solve.Post, next-candidate.Asked, next-candidate.Learnt, same.Asked, same.Learnt)
 
-  -- the function's start, seen from the loop
+  -- the function's start, seen from the loop, and the loop, seen from the end of a turn
   abbrev start : lts.At-loop calls At solve.Post Inv-loop μ-loop → lts.Start calls At solve.Post Inv-loop μ-loop
   start l = l .before .before .before .before
 
-  loop-holds : lts.Need-loop-holds calls At solve.Post Inv-loop μ-loop
-  loop-holds c = (search needs, no-turn _ (c .before .before .before .pre .1 .2))
-
-  solve-requires : lts.Need-solve-requires calls At solve.Post Inv-loop μ-loop
-  solve-requires c κs = (omega arith, (omega arith, omega arith, c .before .loop .inv .1 .unsolved))
+  abbrev turned : lts.After-same calls At solve.Post Inv-loop μ-loop → lts.At-loop calls At solve.Post Inv-loop μ-loop
+  turned s = s .before .before .before .before
 
   -- a turn that changes nothing ends it
   nothing-changed : lts.Need-returns-2 calls At solve.Post Inv-loop μ-loop
   nothing-changed c =
-      let loop = c .before .before .before .before .before in
+      let loop = turned (c .before) in
       let next = c .before .before .next-candidate in
       let alike = same-bits (next .result) (loop .loop .current) (search needs) (loop .loop .inv .0)
       (sym (c .before .same .ensures) ∙ c .if2 .taken) in
@@ -62,16 +59,13 @@ module _ (t : ℕ) where
 
   loop-again : lts.Need-loop-again calls At solve.Post Inv-loop μ-loop
   loop-again c =
-      let loop = c .before .before .before .before .before in
+      let loop = turned (c .before) in
       let a = start loop .args in
       let size = system-size (a .bodies .now) (a .equations) (a .table .now) in (
         search needs,
         one-turn (loop .loop .inv .1) (c .before .before .before .solve .ensures) (c .before .before .next-candidate .ensures)
             (system-divided (a .bodies .now) (a .equations) (a .table .now)) (omega arith),
       )
-
-  solve-requires-2 : lts.Need-solve-requires-2 calls At solve.Post Inv-loop μ-loop
-  solve-requires-2 c κs = (omega arith, (omega arith, omega arith, c .before .loop .inv .1 .unsolved))
 
   -- as many turns as there are instances
   turns-made : lts.Need-returns-3 calls At solve.Post Inv-loop μ-loop
@@ -86,6 +80,7 @@ pub +solve-spec : {M : Type 1} → statement M
 +solve-spec =
     close μ-solve
     (λ t. lts.spec (calls t) (At t) solve.Post Inv-loop μ-loop
-    (λ c. solved-none _ (c .if1 .taken)) (loop-holds t) (λ c. omega arith) (solve-requires t) (λ c κs. omega arith)
-    (λ c κs. tt) (nothing-changed t) (λ c. omega arith) (λ c. omega arith) (loop-again t) (λ c. omega arith)
-    (solve-requires-2 t) (turns-made t))
+    (λ c. solved-none _ (c .if1 .taken)) (λ c. (search needs, no-turn _ (c .before .before .before .pre .1 .2)))
+    (λ c. omega arith) (λ c κs. (omega arith, (omega arith, omega arith, c .before .loop .inv .1 .unsolved)))
+    (λ c κs. omega arith) (λ c κs. tt) (nothing-changed t) (λ c. omega arith) (λ c. omega arith) (loop-again t)
+    (λ c. omega arith) (λ c κs. (omega arith, (omega arith, omega arith, c .before .loop .inv .1 .unsolved))) (turns-made t))

@@ -9,7 +9,6 @@ use lib.Seq.{length-take-le, take-all}
 use mir.Val.{Fits}
 use mir.Syntax.{w64}
 use borrow.Author.Needs.{needs}
-use Rattle.meaning.specs.Typed.{well-formed-count}
 use Rattle.meaning.specs.Reach.{Instance}
 use Rattle.formulas.specs.declared.Equation.{Equation}
 use Rattle.truth.specs.Bits.{bit-of, nowhere}
@@ -17,7 +16,7 @@ use Rattle.truth.specs.Words.{truth-words}
 use Rattle.truth.proofs.Bits.{Eight}
 use Rattle.instances.specs.Sides.{numbered-system}
 use Rattle.instances.specs.Models.{model-in}
-use Rattle.instances.proofs.Models.{model-length}
+use Rattle.instances.proofs.Models.{few-equations}
 use Rattle.solving.specs.Promise.{Solvable, reached-values}
 use Rattle.solving.specs.Solved.{Unsolved, solved}
 use Rattle.solving.proofs.SolvedMeaning.{solved-words}
@@ -31,9 +30,8 @@ whole : {bodies : List ℕ} {equations : List Equation} {count : ℕ} {table : L
     → (r : List ℕ) → Eight r → bit-of r ≡ solved (numbered-system bodies equations (take size table)) few 0 nowhere
     → r ≡ truth-words (reached-values (model-in bodies equations count) start)
 whole {bodies} {equations} {count} {table} {start} h {size} {few} s f r e q =
-    let model = model-in bodies equations count in
     let all = take-all size table (omega (arith, h .few)) ∙ h .words in
-    let n : few ≡ count = omega (arith, well-formed-count model start (h .model .well), model-length bodies equations count 0) in
+    let n : few ≡ count = omega (arith, few-equations (h .model)) in
     solved-words (h .model) r e (rw (all, n) at q)
 
 -- where both sizes are known

@@ -6,12 +6,9 @@ use Rattle.words.specs.Unpacked.{argument-tuple}
 use Rattle.words.proofs.arguments_of.Statement.{statement}
 use Rattle.words.proofs.arguments_of.Tie as tie
 
-returns : tie.Need-returns
-unfolding argument-tuple
-returns c = rw (c .smaller .ensures, c .before .wide .ensures .0) refl
-
 pub arguments-of-spec : {M : Type 1} → statement M
+unfolding argument-tuple
 arguments-of-spec =
     tie.close
-    (tie.spec (λ c. search needs) (λ c. search needs) (λ c. search needs) (λ c. search needs)
-    (λ c κs. tt) (λ c κs. tt) returns)
+    (tie.spec (λ c. search needs) (λ c. search needs) (λ c. search needs) (λ c. search needs) (λ c κs. tt) (λ c κs. tt)
+    (λ c. rw (c .smaller .ensures, c .before .wide .ensures .0) refl))
