@@ -2,8 +2,8 @@
 -- The refusal of the text is that of what is left, after the frames that are done, which the structs hold.
 use Prim.Native.Nat.{ℕ, _+_, _-_, _≤_, _<_}
 use native.Mathlib.Omega.{arith}
-use mathlib.Core.Path.{_≡_, refl, sym, ap, _∙_}
-use mathlib.Core.List.{List, [], _∷_, _++_, append-assoc}
+use mathlib.Core.Path.{_≡_, sym, ap, _∙_}
+use mathlib.Core.List.{List, [], _∷_, _++_, append-assoc, append-nil}
 use lib.ListN.{length, getD, take, length-replicate}
 use lib.Seq.{length-take-le}
 use Rattle.frames.specs.Lines.{line-place}
@@ -16,6 +16,7 @@ use Rattle.reading.proofs.Drafts.{not-ninth}
 use Rattle.reading.proofs.Turns as turn
 use Rattle.reading.proofs.Turns.{judged, frames-at, Begins}
 use Rattle.reading.proofs.Finishing as law
+use Rattle.reading.proofs.LineNumbers.{long-text-one}
 use borrow.Author.Needs.{needs}
 use Rattle.reading.proofs.read_lines.Statement.{statement}
 use Rattle.reading.proofs.read_lines.Tie as tie
@@ -37,7 +38,7 @@ abbrev μ-loop : tie.MeasureT-loop
 μ-loop text bodies₀ m₀ at₀ line₀ bodies m at line = length text + 1 - at
 
 too-long : tie.Need-returns Inv-loop μ-loop
-too-long c = law.lines-refused _ _ 1 0 (c .stop .ensures) (λ z. omega arith) (turn.too-long _ (c .before .if1 .taken))
+too-long c = law.lines-refused _ _ 1 0 (c .stop .ensures) (λ z. omega arith) (long-text-one _ (c .before .if1 .taken))
 
 starts : tie.Need-loop-holds Inv-loop μ-loop
 starts c =
@@ -50,8 +51,8 @@ starts c =
       early = omega arith;
       begins = turn.first-begins t;
       drafted = drafted-none (line-place t) (c .no-model .ensures (line-place t)) (start .pre);
-      left = turn.begins t (c .before .if1 .left);
-      whole = turn.begins-all t (c .before .if1 .left);
+      left = unfold text-refusal in ap (judged []) (turn.frames-begin t (c .before .if1 .left));
+      whole = ap (λ (fs : Frames). fs .all) (turn.frames-begin t (c .before .if1 .left));
     }
 
 line-refused : tie.Need-returns-2 Inv-loop μ-loop
@@ -158,7 +159,8 @@ ends c =
     let loop = c .before .before .before .loop in
     let p = loop .inv in
     let past = c .before .before .loop-test .left in
-    let all = p .whole ∙ turn.all-done _ (p .done) (loop .line) (loop .at) past in
+    let all = p .whole ∙ ap (λ (fs : Frames). p .done ++ fs .all) (turn.frames-end _ (loop .line) (loop .at) past)
+    ∙ append-nil (p .done) in
     law.lines-ended _ (rw (← all) at (p .drafted)) (loop .line)
     (rw all (p .left ∙ turn.lines-end _ (p .done) (loop .line) (loop .at) past)) (c .finish .ensures)
 

@@ -1,6 +1,5 @@
 -- `reading::read_model` meets its contract.
 -- The lines give the refusal or the model, and the bodies.
-use mathlib.Core.Path.{refl}
 use Rattle.reading.proofs.Finishing.{reading-refused, reading-read}
 use borrow.Author.Needs.{needs}
 use Rattle.reading.proofs.read_model.Statement.{statement}

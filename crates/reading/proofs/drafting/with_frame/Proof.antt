@@ -1,8 +1,7 @@
 -- `reading::with_frame` meets its contract.
 -- One branch for each first byte.
-use native.Mathlib.Omega.{arith}
 use mathlib.Core.Path.{refl, sym, _∙_}
-use borrow.Author.Tests.{ne-eqb, eq-eqb}
+use borrow.Author.Tests.{ne-eqb}
 use borrow.Author.Needs.{needs}
 use Rattle.reading.proofs.drafting.with_frame.Statement.{statement}
 use Rattle.reading.proofs.drafting.with_frame.Tie as tie

@@ -1,8 +1,7 @@
 -- `reading::finish` meets its contract.
 -- One constructor for each way out.
 use native.Mathlib.Omega.{arith}
-use mathlib.Core.Path.{_≡_, sym, _∙_, subst}
-use Prim.Native.Nat.{ℕ}
+use mathlib.Core.Path.{_≡_, sym, _∙_}
 use borrow.Author.Needs.{needs}
 use borrow.Author.Tests.{not-true, not-false}
 use Rattle.reading.specs.Contract.{FirstMisfit, no-start, misfits, wrong-start, passes}

@@ -8,23 +8,30 @@ use borrow.Author.Needs.{needs}
 use Rattle.reading.proofs.ending.start_fits.Statement.{statement}
 use Rattle.reading.proofs.ending.start_fits.Tie as tie
 
+-- four arguments and four ranges are there
+four : (c : tie.After-wide) → let a = c .before .args in (length (a .s .arguments) ≡ 4) × (length (a .e .ranges) ≡ 4)
+four c = search needs
+
 returns : tie.Need-returns
 returns c =
-    let a = c .before .before .before .before .before .before .before .before .before .before .before .before .before .args in
-    let n : length (a .s .arguments) ≡ 4 = search needs in
-    let r : length (a .e .ranges) ≡ 4 = search needs in
-    let wide = c .before .before .before .before .before .before .before .before .before .before .before .before .wide in
-    let smaller = c .before .before .before .before .before .before .before .before .before .before .before .smaller in
-    let m = smaller .ensures ∙ ap (λ (x : ℕ). min x 4) (wide .ensures .0) in
-    arguments-judged (a .s .count) (a .e .k) (smaller .result) (a .s .arguments) (a .e .ranges) n r m
-    (c .before .before .before .before .before .before .before .before .implies .ensures)
-    (c .before .before .before .before .before .before .before .implies2 .ensures)
-    (c .before .before .before .before .before .before .implies3 .ensures)
-    (c .before .before .before .before .before .implies4 .ensures)
-    (c .before .before .before .before .and .ensures)
-    (c .before .before .before .and2 .ensures)
-    (c .before .before .and3 .ensures)
-    (c .and4 .ensures)
+    let joined = c .before .before in
+    let asked = joined .before .before .before in
+    let first = asked .before .before .before in
+    let k = first .before .before .before in
+    let a = k .before .before .args in
+    let sizes = four (k .before) in
+    rw (
+      c .and4 .ensures,
+      joined .and3 .ensures,
+      joined .before .and2 .ensures,
+      joined .before .before .and .ensures,
+      asked .implies4 .ensures,
+      asked .before .implies3 .ensures,
+      asked .before .before .implies2 .ensures,
+      first .implies .ensures,
+    )
+    (arguments-judged (a .s .count) (a .e .k) (k .smaller .result) (a .s .arguments) (a .e .ranges) (sizes .0) (sizes .1)
+    (k .smaller .ensures ∙ ap (λ (x : ℕ). min x 4) (k .before .wide .ensures .0)))
 
 pub start-fits-spec : {M : Type 1} → statement M
 start-fits-spec =

@@ -1,64 +1,62 @@
 -- `reading::equation_refusal` meets its contract.
--- One law for each way out.
-use lib.ListN.{length}
+-- After the start or eight equations it is 4; else the head decides, and then the body.
+use mathlib.Core.Path.{_≡_, refl, sym, _∙_}
+use mathlib.Core.Bool.{Bool, not, cond}
 use native.Mathlib.Omega.{arith}
-use borrow.Author.Tests.{not-true, not-false}
-use Rattle.reading.proofs.Refusals.{equation-late, equation-ninth, wrong-head, wrong-body, equation-right, head-fits}
+use lib.ListN.{length}
+use borrow.Author.Tests.{le-ltb, not-true, not-false}
+use Rattle.formulas.specs.Bodies.{is-body}
+use Rattle.reading.specs.Equations.{ranges-in, body-in}
+use Rattle.reading.specs.Reading.{equation-refusal}
+use Rattle.reading.proofs.Refusals.{equation-judged, head-is, body-is, head-fits}
 use borrow.Author.Needs.{needs}
 use Rattle.reading.proofs.judging.equation_refusal.Statement.{statement}
 use Rattle.reading.proofs.judging.equation_refusal.Tie as tie
 
--- the head ends within the frame
+abbrev start : tie.After-is-valid-head → tie.Start
+start c = c .before .before .before .before .before
+
+-- the head and the body decide
+judged : (c : tie.After-is-valid-head) {head body : Bool} → let a = start c .args in c .is-valid-head .result ≡ head
+    → body ≡ is-body (body-in (a .frame .now)) (ranges-in (a .frame .now))
+    → cond head (cond body 0 6) 5 ≡ equation-refusal (a .count) (not (a .started)) (a .frame .now)
+judged c h =
+    let e = c .before in
+    equation-judged _ _ (e .before .before .if1 .left) (e .before .if2 .left)
+    (sym h ∙ head-is _ (e .equation-record .ensures) (c .is-valid-head .ensures))
+
+-- the head is valid
+abbrev headed : tie.After-is-body → tie.After-wide
+headed c = c .before .before
+
+valid : (c : tie.After-is-body) {body : Bool} → let a = start (headed c .before .before) .args in c .is-body .result ≡ body
+    → cond body 0 6 ≡ equation-refusal (a .count) (not (a .started)) (a .frame .now)
+valid c b =
+    let head = headed c .before in
+    judged (head .before) (not-false _ (head .if3 .left))
+    (sym b ∙ body-is _ (head .before .before .equation-record .ensures) (headed c .wide .ensures .0) (c .is-body .ensures))
+
+-- it ends within the frame
 head-there : tie.Need-sub-is-body
 head-there c =
-    let valid = c .before .before in
-    let record-of = valid .before in
-    let a = record-of .before .before .before .before .args in
-    omega (
-      arith,
-      c .wide .ensures .0,
-      head-fits (length (a .frame .now)) (record-of .equation-record .result)
-          (valid .is-valid-head .ensures) (not-false _ (c .before .if3 .left)),
-    )
-
-wrong : tie.Need-returns-3
-wrong c =
-    let e = c .before .before in
-    wrong-head _ _ (e .before .before .if1 .left) (e .before .if2 .left) (e .equation-record .ensures)
-    (c .before .is-valid-head .ensures) (not-true _ (c .if3 .taken))
-
-bad-body : tie.Need-returns-4
-bad-body c =
-    let k = c .before .before .before in
-    let valid = k .before .before in
-    let e = valid .before in
-    wrong-body _ _ (e .before .before .if1 .left) (e .before .if2 .left) (e .equation-record .ensures)
-    (valid .is-valid-head .ensures) (not-false _ (k .before .if3 .left)) (k .wide .ensures .0)
-    (c .before .is-body .ensures) (not-true _ (c .if4 .taken))
-
-right : tie.Need-returns-5
-right c =
-    let k = c .before .before .before in
-    let valid = k .before .before in
-    let e = valid .before in
-    equation-right _ _ (e .before .before .if1 .left) (e .before .if2 .left) (e .equation-record .ensures)
-    (valid .is-valid-head .ensures) (not-false _ (k .before .if3 .left)) (k .wide .ensures .0)
-    (c .before .is-body .ensures) (not-false _ (c .if4 .left))
+    let head = c .before in
+    let fits = head-fits (length (start (head .before) .args .frame .now)) (head .before .before .equation-record .result) in
+    omega (arith, c .wide .ensures .0, fits (head .before .is-valid-head .ensures) (not-false _ (head .if3 .left)))
 
 pub equation-refusal-spec : {M : Type 1} → statement M
 equation-refusal-spec =
     tie.close
     (tie.spec
-    (λ c. equation-late _ _ (c .if1 .taken))
-    (λ c. equation-ninth _ _ (c .before .if1 .left) (c .if2 .taken))
+    (λ c. unfold equation-refusal in rw (c .if1 .taken))
+    (λ c. unfold equation-refusal in rw (c .before .if1 .left, le-ltb _ 8 (c .if2 .taken)))
     (λ c κs. search needs)
     (λ c κs. search needs)
-    wrong
+    (λ c. judged (c .before) (not-true _ (c .if3 .taken)) refl)
     (λ c κs. search needs)
     (λ c. search needs)
     head-there
     (λ c. head-there c)
     (λ c. search needs)
     (λ c κs. search needs)
-    bad-body
-    right)
+    (λ c. valid (c .before) (not-true _ (c .if4 .taken)))
+    (λ c. valid (c .before) (not-false _ (c .if4 .left))))
