@@ -209,8 +209,8 @@ module _ (t : List ℕ) {m : Model} {bodies : List ℕ} (d : Drafted (line-place
   start-line = ap (λ (x : Model). x .start .line) (d .model)
 
   -- after the start: the first equations that fit are passed over
-  passed-over : {r : ℕ} → m .started ≡ true → FirstMisfit m bodies r → text-refusal t ≡ instances-judged (signatures (model-of all))
-      (drop r (equations-in all)) (start-judged (signatures (model-of all)) (first-of (starts-in all)))
+  passed-over : {r : ℕ} → m .started ≡ true → FirstMisfit m bodies r → let sigs = signatures (model-of all) in
+      text-refusal t ≡ instances-judged sigs (drop r (equations-in all)) (start-judged sigs (first-of (starts-in all)))
   unfolding finished
   passed-over {r} s f =
       let near = f .near in
@@ -220,7 +220,7 @@ module _ (t : List ℕ) {m : Model} {bodies : List ℕ} (d : Drafted (line-place
       → text-refusal t ≡ cond (is-start m) (refused 0 0) (refused 8 (m .start .line))
   unfolding instances-judged start-judged
   judged-start s f =
-      let none : drop (m .count) (equations-in all) ≡ [] = drop-of-length-le (equations-in all) {i = m .count} (omega (arith, count-is d)) in
+      let none = drop-of-length-le (equations-in all) {i = m .count} (omega (arith, count-is d)) in
       passed-over s f ∙ rw (none, start-is s, start-line) refl
 
   pub lines-ended : {r : Outcome} → Finishes m bodies line r → LinesRead t bodies r
@@ -228,11 +228,8 @@ module _ (t : List ℕ) {m : Model} {bodies : List ℕ} (d : Drafted (line-place
   lines-ended (no-start s) = lines-refused t bodies 4 line refl (λ z. omega arith) (h ∙ rw (begun s) refl)
   lines-ended (misfits {j} s l f) =
       let there = drop-cons (equations-in all) j no-frame (rw (count-is d) at l) in
-      lines-refused t bodies 7 _ refl (λ z. omega arith) (passed-over s f ∙ rw (
-        there,
-        line-there d j l,
-        sym (fits-there d j l) ∙ f .misfit l,
-      ) refl)
+      let misfit = sym (fits-there d j l) ∙ f .misfit l in
+      lines-refused t bodies 7 _ refl (λ z. omega arith) (passed-over s f ∙ rw (there, line-there d j l, misfit) refl)
   lines-ended (wrong-start s f e) = lines-refused t bodies 8 _ refl (λ z. omega arith) (judged-start s f ∙ rw e refl)
   lines-ended (passes s f e) =
       let z : text-refusal t ≡ refused 0 0 = judged-start s f ∙ rw e refl in

@@ -112,10 +112,12 @@ module _ (b : ℕ) where
   frames-named : (done fs : List Frame) (n i : ℕ) → Within b done → Within b fs → Ends n i
       → Named (frames-judged done fs (refused n i))
   unfolding frames-judged
-  frames-named done [] n i w v e = cases (eqb n 0) (λ h. rw h (finished-named done i w (e .from) (e .to))) (λ h. rw h (omega arith))
+  frames-named done [] n i w v e = chosen (eqb n 0) (finished-named done i w (e .from) (e .to)) (omega arith)
   frames-named done (f ∷ fs) n i w v e =
-      let number = frame-number (length (equations-in done)) (is-none (starts-in done)) (f .bytes) in
-      chosen (eqb (frame-refusal (length (equations-in done)) (is-none (starts-in done)) (f .bytes)) 0) (frames-named (done ++ (f ∷ [])) fs n i (more-within done f w (v .0) (v .1)) (v .2) e) (omega arith)
+      let after = frame-refusal (length (equations-in done)) (is-none (starts-in done)) (f .bytes) in
+      let number : Number after = frame-number _ _ (f .bytes) in
+      let more = frames-named (done ++ (f ∷ [])) fs n i (more-within done f w (v .0) (v .1)) (v .2) e in
+      chosen (eqb after 0) more (omega arith)
 
   lines-within : (i : ℕ) (ls : List Line) → 1 ≤ i → i + length ls ≤ b
       → let fs = frames-from i ls in Within b (fs .all) × Ends (fs .number) (fs .line)

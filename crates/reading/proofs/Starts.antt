@@ -69,16 +69,16 @@ module _ (n k m : ℕ) (x rs : List ℕ) (hx : length x ≡ 4) (hr : length rs �
       (same-number (getD x 0 0) (getD x 1 0) (getD x 2 0) (getD x 3 0) (getD rs 0 0) (getD rs 1 0) (getD rs 2 0) (getD rs 3 0) i
       h))
 
+  wrong-number : (n ≡ m → ⊥) → leb n 4 && within (take n x) (take k rs) ≡ false
+  wrong-number h = cases (leb n 4) (λ l. rw l (other-length (take n x) (take k rs) (λ q. h
+      (omega (arith, leb-true n 4 l, length-take n x, length-take k rs, q, hx, hr, e))))) (λ l. rw l refl)
+
   -- the four tests, and that of their number
   pub arguments-judged : eqb n m && asked-four m x rs ≡ leb n 4 && within (take n x) (take k rs)
   arguments-judged = cases (eqb n m)
-      (λ h.
-      let q : n ≡ m = eqb-true n m h in
-      rw (h, q, le-leb m 4 (omega (arith, e)), ← take-most rs k 4 hr (leb k 4) refl, ← e) (same m (omega (arith, e))))
-      (λ h. rw h (sym (cases (leb n 4)
-      (λ l. rw l (other-length (take n x) (take k rs) (λ q. eqb-false n m h
-      (omega (arith, leb-true n 4 l, length-take n x, length-take k rs, q, hx, hr, e)))))
-      (λ l. rw l refl))))
+      (λ h. rw (h, eqb-true n m h, le-leb m 4 (omega (arith, e)), ← take-most rs k 4 hr (leb k 4) refl, ← e)
+      (same m (omega (arith, e))))
+      (λ h. rw h (sym (wrong-number (eqb-false n m h))))
 
 -- the start's equation
 module _ (m : Model) (l : m .count ≤ length (m .equations)) {i : ℕ} (e : i ≡ m .start .equation) where
@@ -92,10 +92,5 @@ module _ (m : Model) (l : m .count ≤ length (m .equations)) {i : ℕ} (e : i �
       (ranges-of (getD (m .equations) i blank))
       → r ≡ is-start m
   unfolding is-start typed _and_
-  start-named h f = rw (
-    signatures-length (m .equations) (m .count) l,
-    ← e,
-    lt-ltb i (m .count) h,
-    signature-at (m .equations)
-        (m .count) i h,
-  ) f
+  start-named h f =
+      rw (signatures-length (m .equations) (m .count) l, ← e, lt-ltb i (m .count) h, signature-at (m .equations) (m .count) i h) f

@@ -5,9 +5,5 @@ use Rattle.reading.specs.Records.{start-record, model-record}
 use Rattle.reading.proofs.drafting.no_model.Statement.{statement}
 use Rattle.reading.proofs.drafting.no_model.Tie as tie
 
-returns : tie.Need-returns
-unfolding model-record start-record
-returns c place = refl
-
 pub no-model-spec : {M : Type 1} → statement M
-no-model-spec = tie.close (tie.spec returns)
+no-model-spec = tie.close (tie.spec (λ c place. unfold model-record start-record in refl))

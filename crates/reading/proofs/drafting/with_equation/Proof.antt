@@ -6,10 +6,6 @@ use borrow.Author.Needs.{needs}
 use Rattle.reading.proofs.drafting.with_equation.Statement.{statement}
 use Rattle.reading.proofs.drafting.with_equation.Tie as tie
 
-returns : tie.Need-returns
-unfolding with-equation
-returns c = refl
-
 pub with-equation-spec : {M : Type 1} → statement M
 with-equation-spec =
     tie.close
@@ -19,4 +15,4 @@ with-equation-spec =
     (λ c. search needs)
     (λ c. search needs)
     (λ c. search needs)
-    returns)
+    (λ c. unfold with-equation in refl))

@@ -5,9 +5,5 @@ use Rattle.reading.specs.Contract.{with-start}
 use Rattle.reading.proofs.drafting.with_start.Statement.{statement}
 use Rattle.reading.proofs.drafting.with_start.Tie as tie
 
-returns : tie.Need-returns
-unfolding with-start
-returns c = refl
-
 pub with-start-spec : {M : Type 1} → statement M
-with-start-spec = tie.close (tie.spec returns)
+with-start-spec = tie.close (tie.spec (λ c. unfold with-start in refl))

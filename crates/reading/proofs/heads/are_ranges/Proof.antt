@@ -9,19 +9,18 @@ use Rattle.reading.proofs.heads.are_ranges.Tie as tie
 
 returns : tie.Need-returns
 returns c =
-    let a = c .before .before .before .before .before .before .before .args in
-    let n : length (a .t1) ≡ 4 = search needs in
+    let asked = c .before .before .before in
+    let first = asked .before .before .before in
+    let n : length (first .before .args .t1) ≡ 4 = search needs in
     rw (
       c .and3 .ensures,
       c .before .and2 .ensures,
       c .before .before .and .ensures,
-      c .before .before .before .is-range4
-          .ensures,
-      c .before .before .before .before .is-range3 .ensures,
-      c .before .before .before .before .before .is-range2
-          .ensures,
-      c .before .before .before .before .before .before .is-range .ensures,
-    ) (four-ranges (a .t1) n)
+      asked .is-range4 .ensures,
+      asked .before .is-range3 .ensures,
+      asked .before .before .is-range2 .ensures,
+      first .is-range .ensures,
+    ) (four-ranges (first .before .args .t1) n)
 
 pub are-ranges-spec : {M : Type 1} → statement M
 are-ranges-spec =
