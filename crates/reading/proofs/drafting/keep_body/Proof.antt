@@ -26,20 +26,19 @@ Inv-loop bodies₀ frame j head from₀ to₀ bodies from to = Keeping bodies₀
 abbrev μ-loop : tie.MeasureT-loop
 μ-loop bodies₀ frame j head from₀ to₀ bodies from to = length frame - from
 
--- a frame that is no equation's
-no-equation : tie.Need-returns Inv-loop μ-loop
-no-equation c = rw (← c .before .element .ensures, ne-eqb _ 1 (c .if1 .taken)) refl
+-- where the first byte was read, and the function's entry
+abbrev code : tie.After-wide Inv-loop μ-loop → tie.After-element Inv-loop μ-loop
+code c = c .before .before .before
+
+abbrev entry : tie.After-wide Inv-loop μ-loop → tie.Start Inv-loop μ-loop
+entry c = code c .before .before .before
 
 -- an equation is one of eight
-one-of-eight : (c : tie.After-wide Inv-loop μ-loop) → c .before .before .before .before .before .before .args .j < 8
-one-of-eight c =
-    let code = c .before .before .before in
-    code .before .before .before .pre .1 (sym (code .element .ensures) ∙ c .before .before .if1 .left)
+one-of-eight : (c : tie.After-wide Inv-loop μ-loop) → entry c .args .j < 8
+one-of-eight c = entry c .pre .1 (sym (code c .element .ensures) ∙ c .before .before .if1 .left)
 
 begins : tie.Need-loop-holds Inv-loop μ-loop
-begins c =
-    let start = c .before .before .before .before .before .before in
-    record { few = one-of-eight c; past = omega arith; there = omega arith; long = start .pre .2; left = refl }
+begins c = record { few = one-of-eight c; past = omega arith; there = omega arith; long = entry c .pre .2; left = refl }
 
 step : (b f : List ℕ) (from to : ℕ) → from < length f
     → sets (set b to (getD f from 0)) (to + 1) (drop (from + 1) f) ≡ sets b to (drop from f)
@@ -59,16 +58,9 @@ turns c =
 ends : tie.Need-returns-2 Inv-loop μ-loop
 ends c =
     let head = c .before .before in
-    let code = head .before .before .before in
-    let a = code .before .before .before .args in
-    let all : drop (c .before .loop .from) (a .frame .now) ≡ [] = drop-of-length-le _ (c .loop-test .left) in
+    let all : drop (c .before .loop .from) (entry head .args .frame .now) ≡ [] = drop-of-length-le _ (c .loop-test .left) in
     let kept = rw (all, head .wide .ensures .0, head .before .element2 .ensures) at (c .before .loop .inv .left) in
-    rw (← code .element .ensures, head .before .before .if1 .left) kept
-
-same-length : tie.Need-same-length Inv-loop μ-loop
-same-length c =
-    let start = c .before .before .before .before .before .before .before .before in
-    c .before .loop .inv .long ∙ sym (start .pre .2)
+    rw (← code head .element .ensures, head .before .before .if1 .left) kept
 
 pub keep-body-spec : {M : Type 1} → statement M
 keep-body-spec =
@@ -77,7 +69,7 @@ keep-body-spec =
     Inv-loop
     μ-loop
     (λ c κs. search needs)
-    no-equation
+    (λ c. rw (← c .before .element .ensures, ne-eqb _ 1 (c .if1 .taken)))
     (λ c κs. search needs)
     (λ c κs. search needs)
     (λ c. search needs)
@@ -89,5 +81,5 @@ keep-body-spec =
     (λ c. omega arith)
     (λ c. omega arith)
     turns
-    same-length
+    (λ c. c .before .loop .inv .long ∙ sym (entry (c .before .before) .pre .2))
     ends)

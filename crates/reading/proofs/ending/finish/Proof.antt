@@ -8,11 +8,8 @@ use Rattle.reading.specs.Contract.{FirstMisfit, no-start, misfits, wrong
 use Rattle.reading.proofs.ending.finish.Statement.{statement}
 use Rattle.reading.proofs.ending.finish.Tie as tie
 
-returns : tie.Need-returns
-returns c = rw (c .stop .ensures) (no-start (not-true _ (c .before .if1 .taken)))
-
-returns-2 : tie.Need-returns-2
-returns-2 c =
+misfit : tie.Need-returns-2
+misfit c =
     let j = c .before .before .before in
     rw (c .stop2 .ensures) (misfits (not-false _ (j .before .if1 .left)) (c .before .before .if2 .taken)
     (j .first-misfit .ensures))
@@ -20,21 +17,20 @@ returns-2 c =
 -- no equation is left
 all-fit : (c : tie.Else2) → let a = c .before .before .before .before .args in FirstMisfit (a .t2) (a .bodies .now) (a .t2 .count)
 all-fit c =
-    let a = c .before .before .before .before .args in
     let fit = c .before .first-misfit .ensures in
-    let all : c .before .first-misfit .result ≡ a .t2 .count = omega (arith, fit .near, c .if2 .left) in
+    let all : c .before .first-misfit .result ≡ c .before .before .before .before .args .t2 .count = omega (arith, fit .near) in
     rw all at fit
 
-returns-3 : tie.Need-returns-3
-returns-3 c =
+wrong : tie.Need-returns-3
+wrong c =
     let start = c .before .before .before in
     let all = start .before in
     rw (c .stop3 .ensures)
     (wrong-start (not-false _ (all .before .before .if1 .left)) (all-fit all)
     (sym (start .is-valid-start .ensures) ∙ not-true _ (c .before .before .if3 .taken)))
 
-returns-4 : tie.Need-returns-4
-returns-4 c =
+right : tie.Need-returns-4
+right c =
     let all = c .before .before in
     passes (not-false _ (all .before .before .if1 .left)) (all-fit all) (sym (c .before .is-valid-start .ensures)
     ∙ not-false _ (c .if3 .left))
@@ -44,13 +40,13 @@ finish-spec =
     tie.close
     (tie.spec
     (λ c κs. search needs)
-    returns
-    (λ c κs. (c .before .before .pre .0, c .before .before .pre .1, c .before .before .pre .2, c .before .before .pre .3))
+    (λ c. rw (c .stop .ensures) (no-start (not-true _ (c .before .if1 .taken))))
+    (λ c κs. let p = c .before .before .pre in (p .0, p .1, p .2, p .3))
     (λ c. omega arith)
     (λ c. omega (arith, c .before .first-misfit .ensures .near))
     (λ c κs. search needs)
-    returns-2
-    (λ c κs. (c .before .before .before .before .pre .0, c .before .before .before .before .pre .1))
+    misfit
+    (λ c κs. let p = c .before .before .before .before .pre in (p .0, p .1))
     (λ c κs. search needs)
-    returns-3
-    returns-4)
+    wrong
+    right)

@@ -3,13 +3,11 @@
 use Prim.Native.Nat.{ℕ, _+_, _-_, _*_, _≤_, _<_}
 use native.Mathlib.Omega.{arith}
 use native.Mathlib.Decide.{ℕ-discrete}
-use mathlib.Core.Path.{_≡_, refl, sym, _∙_}
-use mathlib.Core.Bool.{Bool, true}
+use mathlib.Core.Path.{_≡_, sym, _∙_}
+use mathlib.Core.Bool.{true}
 use borrow.Author.Tests.{not-true, not-false}
-use mathlib.Core.List.{List}
-use lib.ListN.{getD, take, drop}
-use Rattle.formulas.specs.Bodies.{blank, ranges-of, signatures-of, is-fitting}
-use Rattle.reading.specs.declared.Model.{Model}
+use lib.ListN.{getD}
+use Rattle.formulas.specs.Bodies.{blank}
 use Rattle.reading.specs.Contract.{fits-at}
 use borrow.Author.Needs.{needs}
 use Rattle.reading.proofs.ending.first_misfit.Statement.{statement}
@@ -21,42 +19,44 @@ Inv-loop bodies m j₀ j = (j ≤ m .count) × ((i : ℕ) → i < j → fits-at 
 abbrev μ-loop : tie.MeasureT-loop
 μ-loop bodies m j₀ j = m .count - j
 
--- the body of the present equation is a part of the bodies
-inside : tie.Need-part-is-fitting-end Inv-loop μ-loop
-inside c =
-    let loop = c .before .before .before in
-    let start = loop .before .before in
-    omega (arith, start .pre .2, start .pre .3 (loop .loop .j) (c .before .before .loop-test .taken))
+-- the loop's place, from that of the present equation's body, and from that of the call
+abbrev turn : tie.After-struct-known Inv-loop μ-loop → tie.At-loop Inv-loop μ-loop
+turn c = c .before .before .before
+
+abbrev called : tie.After-is-fitting Inv-loop μ-loop → tie.At-loop Inv-loop μ-loop
+called c = turn (c .before .before .before)
+
+-- the body is not too long
+short : (c : tie.After-struct-known Inv-loop μ-loop)
+    → getD (turn c .before .before .args .t2 .equations) (turn c .loop .j) blank .length ≤ 256
+short c = turn c .before .before .pre .3 (turn c .loop .j) (c .before .before .loop-test .taken)
 
 -- whether they fit is what the call said: the part has as many bytes as the body
-said : (m : Model) (bodies : List ℕ) (j first end : ℕ) {b : Bool} → first ≡ 256 * j
-    → end ≡ first + getD (m .equations) j blank .length
-    → b ≡ is-fitting (signatures-of (m .equations) (m .count)) (take (end - first) (drop first bodies))
-    (ranges-of (getD (m .equations) j blank)) → b ≡ fits-at m bodies j
+said : (c : tie.After-is-fitting Inv-loop μ-loop) → let a = called c .before .before .args in
+    c .is-fitting .result ≡ fits-at (a .t2) (a .bodies .now) (called c .loop .j)
 unfolding fits-at
-said m bodies j first end f e h =
-    let n : end - first ≡ getD (m .equations) j blank .length = omega (arith, e) in rw (n, f) at h
+said c =
+    let a = called c .before .before .args in
+    let j = called c .loop .j in
+    let length = getD (a .t2 .equations) j blank .length in
+    let n : 256 * j + length - 256 * j ≡ length = omega arith in
+    rw n at (c .is-fitting .ensures)
 
 one-more : tie.Need-loop-again Inv-loop μ-loop
 one-more c =
-    let loop = c .before .before .before .before .before .before .before in
-    let a = loop .before .before .args in
-    let fit = sym (said (a .t2) (a .bodies .now) (loop .loop .j) _ _ refl refl (c .before .is-fitting .ensures))
-    ∙ not-false _ (c .if1 .left) in (
+    let loop = called (c .before) .loop in
+    let fit = sym (said (c .before)) ∙ not-false _ (c .if1 .left) in (
       omega arith,
-      λ i h. elim (ℕ-discrete i (loop .loop .j)) [
+      λ i h. elim (ℕ-discrete i (loop .j)) [
         | yes e ↦ rw e fit
-        | no d ↦ loop .loop .inv .1 i (omega (arith, d))
+        | no d ↦ loop .inv .1 i (omega (arith, d))
       ],
     )
 
 found : tie.Need-returns Inv-loop μ-loop
 found c =
-    let loop = c .before .before .before .before .before .before .before in
-    let a = loop .before .before .args in
-    let misfit = sym (said (a .t2) (a .bodies .now) (loop .loop .j) _ _ refl refl (c .before .is-fitting .ensures))
-    ∙ not-true _ (c .if1 .taken) in
-    record { near = loop .loop .inv .0; fit = loop .loop .inv .1; misfit = λ h. misfit }
+    let inv = called (c .before) .loop .inv in
+    record { near = inv .0; fit = inv .1; misfit = λ h. sym (said (c .before)) ∙ not-true _ (c .if1 .taken) }
 
 none : tie.Need-returns-2 Inv-loop μ-loop
 none c = record { near = c .before .loop .inv .0; fit = c .before .loop .inv .1; misfit = λ h. absurd (omega arith) }
@@ -71,11 +71,10 @@ first-misfit-spec =
     (λ c. omega arith)
     (λ c. omega arith)
     (λ c. omega arith)
-    (λ c. let loop = c .before .before .before in let start = loop .before .before in omega
-    (arith, start .pre .3 (loop .loop .j) (c .before .before .loop-test .taken)))
+    (λ c. omega (arith, short c))
     (λ c. omega arith)
     (λ c. omega arith)
-    inside
+    (λ c. omega (arith, short c, turn c .before .before .pre .2))
     (λ c κs. search needs)
     found
     (λ c. omega arith)
