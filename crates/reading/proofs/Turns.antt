@@ -18,10 +18,9 @@ use Rattle.frames.specs.Frames.{Frame, Frames, stopped, with-frame, frames-from
 use Rattle.frames.specs.FrameAt.{first-length, line-at, end-at, frame-at}
 use Rattle.frames.proofs.At.{first-length-most}
 use Rattle.frames.proofs.Turns.{lines-at, lines-past}
-use Rattle.reading.specs.Models.{equations-in, starts-in, is-none}
-use Rattle.reading.specs.Reading.{Refusal, refused, frame-refusal, finished, frames-judged}
+use Rattle.reading.specs.Reading.{Refusal, refused, finished, frames-judged}
 use Rattle.reading.proofs.Refusals.{cases, &&-left, &&-right, passed}
-use Rattle.reading.proofs.Drafts.{frame-of}
+use Rattle.reading.proofs.Drafts.{frame-of, refusal-after}
 
 -- the refusal of some frames, after those that are done
 abbrev pub judged : List Frame → Frames → Refusal
@@ -100,7 +99,7 @@ module _ (t : List ℕ) (done : List Frame) (line at : ℕ) (h : at < length t) 
     bytes = take (f .size) (f .bytes)
 
     abbrev number : ℕ
-    number = frame-refusal (length (equations-in done)) (is-none (starts-in done)) bytes
+    number = refusal-after done bytes
 
     pub framed : frames-at t line at ≡ with-frame line bytes (frames-at t (line + 1) (f .end + 1))
     framed =
