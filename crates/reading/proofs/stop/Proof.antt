@@ -1,6 +1,5 @@
 -- `reading::stop` meets its contract.
 -- The model is that of no frame.
-use mathlib.Core.Path.{refl}
 use borrow.Author.Needs.{needs}
 use Rattle.reading.proofs.stop.Statement.{statement}
 use Rattle.reading.proofs.stop.Tie as tie
