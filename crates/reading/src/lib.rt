@@ -74,14 +74,14 @@ fn read_lines(text: &[u8], bodies: &mut [u8]) -> Outcome
         if f.number != 0 {
             return stop(f.number, line);
         }
-        let frame = f.bytes;
-        let size = f.size;
-        let number = frame_refusal(&frame[..size], m.count, m.started);
+        let bytes = f.bytes;
+        let frame = &bytes[..f.size];
+        let number = frame_refusal(frame, m.count, m.started);
         if number != 0 {
             return stop(number, line);
         }
-        keep_body(bodies, &frame[..size], m.count);
-        let next = with_frame(m, &frame[..size], line, at);
+        keep_body(bodies, frame, m.count);
+        let next = with_frame(m, frame, line, at);
         m = next;
         at = f.end + 1;
         line += 1;

@@ -131,7 +131,7 @@ near c = turn.end-near _ _ (looked (framed c) .frame-at .ensures) (progress (fra
 
 keep-requires : tie.Need-keep-body-requires Inv-loop μ-loop
 keep-requires c κs =
-    let frame = c .before .before in
+    let frame = c .before in
     (rw (taken (framed frame)) (small (framed frame)), few frame, law.bodies-long (loop-at frame .loop .inv .drafted))
 
 -- ---- its body is kept
@@ -139,15 +139,15 @@ abbrev kept : tie.After-slice-known2 Inv-loop μ-loop → tie.After-keep-body In
 kept c = c .before .before
 
 abbrev passing : tie.After-slice-known2 Inv-loop μ-loop → tie.Else3 Inv-loop μ-loop
-passing c = kept c .before .before .before
+passing c = kept c .before .before
 
 with-requires : tie.Need-with-frame-requires Inv-loop μ-loop
 with-requires c κs =
-    let frame = passing (c .before) in
+    let frame = passing c in
     (omega (arith, loop-at frame .loop .inv .short, progress (framed frame) .loop-test .taken), few frame)
 
 abbrev drafted : tie.After-struct-known2 Inv-loop μ-loop → tie.After-slice-known2 Inv-loop μ-loop
-drafted c = c .before .before .before
+drafted c = c .before .before
 
 again : tie.Need-loop-again Inv-loop μ-loop
 again c =
@@ -206,11 +206,7 @@ read-lines-spec =
     (λ c κs. search needs)
     (λ c. long (progress (judged-at (c .before .before)) .before))
     frame-refused
-    (λ c. room (framed (c .before)))
-    (λ c. sym (taken (framed (c .before .before))))
     keep-requires
-    (λ c. room (framed (passing c)))
-    (λ c. sym (taken (framed (passing (c .before)))))
     with-requires
     (λ c. omega (arith, near (passing (drafted c)), loop-at (passing (drafted c)) .loop .inv .short))
     (λ c. omega (arith, loop-at (passing (drafted c)) .loop .inv))
