@@ -81,8 +81,7 @@ fn read_lines(text: &[u8], bodies: &mut [u8]) -> Outcome
             return stop(number, line);
         }
         keep_body(bodies, frame, m.count);
-        let next = with_frame(m, frame, line, at);
-        m = next;
+        m = with_frame(m, frame, line, at);
         at = f.end + 1;
         line += 1;
     }
@@ -94,20 +93,13 @@ pub fn read_model(text: &[u8]) -> Reading
 {
     let mut bodies = [0u8; 2048];
     let r = read_lines(text, &mut bodies);
-    let number = r.number;
-    let line = r.line;
     let model = r.model;
-    if number != 0 {
-        return Reading {
-            number,
-            line,
-            model,
-            bodies: [0; 2048],
-        };
+    if r.number != 0 {
+        bodies = [0; 2048];
     }
     Reading {
-        number,
-        line,
+        number: r.number,
+        line: r.line,
         model,
         bodies,
     }

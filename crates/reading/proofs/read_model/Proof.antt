@@ -11,5 +11,5 @@ read-model-spec =
     (tie.spec
     (λ c. search needs)
     (λ c κs. search needs)
-    (λ c. reading-refused _ (c .before .before .before .read-lines .ensures) (c .if1 .taken))
-    (λ c. reading-read _ (c .before .before .before .read-lines .ensures) (c .if1 .left)))
+    (λ c. reading-refused _ (c .before .before .before .before .read-lines .ensures) (c .if1 .taken))
+    (λ c. reading-read _ (c .before .before .before .before .read-lines .ensures) (c .if1 .left)))
