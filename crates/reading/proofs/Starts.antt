@@ -73,12 +73,18 @@ module _ (n k m : ℕ) (x rs : List ℕ) (hx : length x ≡ 4) (hr : length rs �
   wrong-number h = cases (leb n 4) (λ l. rw l (other-length (take n x) (take k rs) (λ q. h
       (omega (arith, leb-true n 4 l, length-take n x, length-take k rs, q, hx, hr, e))))) (λ l. rw l refl)
 
-  -- the four tests, and that of their number
-  pub arguments-judged : eqb n m && asked-four m x rs ≡ leb n 4 && within (take n x) (take k rs)
-  arguments-judged = cases (eqb n m)
+  judged : eqb n m && asked-four m x rs ≡ leb n 4 && within (take n x) (take k rs)
+  judged = cases (eqb n m)
       (λ h. rw (h, eqb-true n m h, le-leb m 4 (omega (arith, e)), ← take-most rs k 4 hr (leb k 4) refl, ← e)
       (same m (omega (arith, e))))
       (λ h. rw h (sym (wrong-number (eqb-false n m h))))
+
+  -- the four tests, joined from the last on, and then with the test of their number
+  pub arguments-judged : {b₀ b₁ b₂ b₃ b₂₃ b₁₂₃ all r : Bool} →
+      b₀ ≡ asked m x rs 0 → b₁ ≡ asked m x rs 1 → b₂ ≡ asked m x rs 2 → b₃ ≡ asked m x rs 3 →
+      b₂₃ ≡ b₂ && b₃ → b₁₂₃ ≡ b₁ && b₂₃ → all ≡ b₀ && b₁₂₃ → r ≡ eqb n m && all →
+      r ≡ leb n 4 && within (take n x) (take k rs)
+  arguments-judged e₀ e₁ e₂ e₃ e₂₃ e₁₂₃ e-all e = e ∙ rw (e-all, e₁₂₃, e₂₃, e₀, e₁, e₂, e₃) judged
 
 -- the start's equation
 module _ (m : Model) (l : m .count ≤ length (m .equations)) {i : ℕ} (e : i ≡ m .start .equation) where

@@ -6,15 +6,15 @@ use borrow.Author.Needs.{needs}
 use Rattle.reading.proofs.ending.is_valid_start.Statement.{statement}
 use Rattle.reading.proofs.ending.is_valid_start.Tie as tie
 
-returns : tie.Need-returns
-returns c =
+unnamed : tie.Need-returns
+unnamed c =
     let a = c .before .before .before .args in
     start-unnamed (a .t1) (omega arith) (c .before .wide .ensures .0) (c .if1 .taken)
 
-returns-2 : tie.Need-returns-2
-returns-2 c =
-    let a = c .before .before .before .before .before .args in
-    start-named (a .t1) (omega arith) (c .before .before .before .wide .ensures .0) (c .before .before .if1 .left)
+named : tie.Need-returns-2
+named c =
+    let i = c .before .before .before in
+    start-named (i .before .before .args .t1) (omega arith) (i .wide .ensures .0) (c .before .before .if1 .left)
     (c .start-fits .ensures)
 
 pub is-valid-start-spec : {M : Type 1} → statement M
@@ -22,8 +22,8 @@ is-valid-start-spec =
     tie.close
     (tie.spec
     (λ c κs. search needs)
-    returns
+    unnamed
     (λ c. search needs)
     (λ c. search needs)
     (λ c κs. search needs)
-    returns-2)
+    named)

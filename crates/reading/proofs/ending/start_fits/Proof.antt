@@ -20,18 +20,11 @@ returns c =
     let k = first .before .before .before in
     let a = k .before .before .args in
     let sizes = four (k .before) in
-    rw (
-      c .and4 .ensures,
-      joined .and3 .ensures,
-      joined .before .and2 .ensures,
-      joined .before .before .and .ensures,
-      asked .implies4 .ensures,
-      asked .before .implies3 .ensures,
-      asked .before .before .implies2 .ensures,
-      first .implies .ensures,
-    )
-    (arguments-judged (a .s .count) (a .e .k) (k .smaller .result) (a .s .arguments) (a .e .ranges) (sizes .0) (sizes .1)
-    (k .smaller .ensures ∙ ap (λ (x : ℕ). min x 4) (k .before .wide .ensures .0)))
+    let least = k .smaller .ensures ∙ ap (λ (x : ℕ). min x 4) (k .before .wide .ensures .0) in
+    arguments-judged (a .s .count) (a .e .k) (k .smaller .result) (a .s .arguments) (a .e .ranges) (sizes .0) (sizes .1) least
+    (first .implies .ensures) (asked .before .before .implies2 .ensures) (asked .before .implies3 .ensures)
+    (asked .implies4 .ensures) (joined .before .before .and .ensures) (joined .before .and2 .ensures)
+    (joined .and3 .ensures) (c .and4 .ensures)
 
 pub start-fits-spec : {M : Type 1} → statement M
 start-fits-spec =

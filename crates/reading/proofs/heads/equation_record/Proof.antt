@@ -1,6 +1,5 @@
 -- `reading::equation_record` meets its contract.
 -- Each field is a byte of the frame, or 1 for an absent range.
-use mathlib.Core.Path.{refl}
 use Rattle.reading.specs.Records.{equation-record}
 use borrow.Author.Needs.{needs}
 use Rattle.reading.proofs.heads.equation_record.Statement.{statement}
@@ -19,7 +18,7 @@ returns c =
       ranges .before .before .range-of2 .ensures,
       ranges .before .before .before .range-of .ensures,
       ranges .before .before .before .before .element .ensures,
-    ) refl
+    )
 
 pub equation-record-spec : {M : Type 1} → statement M
 equation-record-spec =

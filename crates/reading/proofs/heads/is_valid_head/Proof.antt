@@ -1,6 +1,5 @@
 -- `reading::is_valid_head` meets its contract.
 -- All tests hold.
-use mathlib.Core.Path.{refl}
 use borrow.Author.Needs.{needs}
 use Rattle.reading.proofs.heads.is_valid_head.Statement.{statement}
 use Rattle.reading.proofs.heads.is_valid_head.Tie as tie
@@ -14,7 +13,7 @@ returns c =
       c .before .before .and .ensures,
       ranges .are-ranges .ensures,
       ranges .before .before .wide .ensures .0,
-    ) refl
+    )
 
 pub is-valid-head-spec : {M : Type 1} → statement M
 is-valid-head-spec =

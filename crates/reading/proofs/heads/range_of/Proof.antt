@@ -1,22 +1,9 @@
 -- `reading::range_of` meets its contract.
 -- An absent range is 1.
-use mathlib.Core.Path.{refl}
 use borrow.Author.Tests.{lt-ltb, le-ltb}
 use borrow.Author.Needs.{needs}
 use Rattle.reading.proofs.heads.range_of.Statement.{statement}
 use Rattle.reading.proofs.heads.range_of.Tie as tie
-
-returns : tie.Need-returns
-returns c =
-    let k = c .before .before in
-    let there = rw (k .wide .ensures .0, k .before .element .ensures) at (c .before .if1 .taken) in
-    rw (lt-ltb _ _ there, c .element2 .ensures) refl
-
-returns-2 : tie.Need-returns-2
-returns-2 c =
-    let k = c .before in
-    let absent = rw (k .wide .ensures .0, k .before .element .ensures) at (c .if1 .left) in
-    rw (le-ltb _ _ absent) refl
 
 pub range-of-spec : {M : Type 1} → statement M
 range-of-spec =
@@ -26,5 +13,7 @@ range-of-spec =
     (λ c κs. search needs)
     (λ c. search needs)
     (λ c κs. search needs)
-    returns
-    returns-2)
+    (λ c. let k = c .before .before in
+    let there = rw (k .wide .ensures .0, k .before .element .ensures) at (c .before .if1 .taken) in
+    rw (lt-ltb _ _ there, c .element2 .ensures))
+    (λ c. rw (le-ltb _ _ (rw (c .before .wide .ensures .0, c .before .before .element .ensures) at (c .if1 .left)))))

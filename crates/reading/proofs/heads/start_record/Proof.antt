@@ -1,6 +1,5 @@
 -- `reading::start_record` meets its contract.
 -- Each field is a byte of the frame.
-use mathlib.Core.Path.{refl}
 use Rattle.reading.specs.Records.{start-record}
 use borrow.Author.Needs.{needs}
 use Rattle.reading.proofs.heads.start_record.Statement.{statement}
@@ -17,7 +16,7 @@ returns c =
       arguments .before .element3 .ensures,
       arguments .before .before .element2 .ensures,
       arguments .before .before .before .element .ensures,
-    ) refl
+    )
 
 pub start-record-spec : {M : Type 1} → statement M
 start-record-spec =

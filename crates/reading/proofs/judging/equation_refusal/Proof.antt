@@ -40,8 +40,12 @@ valid c b =
 head-there : tie.Need-sub-is-body
 head-there c =
     let head = c .before in
-    let fits = head-fits (length (start (head .before) .args .frame .now)) (head .before .before .equation-record .result) in
-    omega (arith, c .wide .ensures .0, fits (head .before .is-valid-head .ensures) (not-false _ (head .if3 .left)))
+    omega (
+      arith,
+      c .wide .ensures .0,
+      head-fits (length (start (head .before) .args .frame .now)) (head .before .before .equation-record .result)
+          (head .before .is-valid-head .ensures) (not-false _ (head .if3 .left)),
+    )
 
 pub equation-refusal-spec : {M : Type 1} → statement M
 equation-refusal-spec =
