@@ -113,10 +113,9 @@ part-bodies n p j (f ∷ fs) there h =
 -- what was stored stands where it was stored
 stored-part : (l w : List ℕ) (q : ℕ) → q + length w ≤ length l → take (length w) (drop q (sets l q w)) ≡ w
 stored-part l w q h =
-    ap (λ (x : List ℕ). take (length w) (drop q x)) (sets-eq w l q h) ∙
-    ap (λ (x : List ℕ). take (length w) (drop q x)) (append-assoc (take q l) w (drop (q + length w) l)) ∙
-    ap (take (length w)) (drop-at (take q l) (w ++ drop (q + length w) l) q (length-take-le q l (omega arith))) ∙
-    take-append-seam w (drop (q + length w) l)
+    let first = length-take-le q l (omega arith) in
+    rw (sets-eq w l q h, append-assoc (take q l) w (drop (q + length w) l), drop-at (take q l) _ q first)
+    (take-append-seam w _)
 
 pub body-stored : (j : ℕ) (fs : List Frame) (there : List ℕ) (i : ℕ) → i < length fs
     → ((k : ℕ) → k < length fs → length (body-in (getD fs k no-frame .bytes)) ≤ 256)
@@ -195,19 +194,21 @@ refusal-after fs f = frame-refusal (length (equations-in fs)) (is-none (starts-i
 
 pub goes : (fs : List Frame) (f : Frame) → refusal-after fs (f .bytes) ≡ 0 → Goes fs f
 unfolding frame-refusal
-goes fs f e =
-    let n = length (equations-in fs) in
-    let u = is-none (starts-in fs) in
-    cases (eqb (code-of f) 1) (λ c.
-    let p = equation-passed n u (f .bytes) (rw c at e) in
-    let one = eqb-true _ _ c in
-    equation one (p .1) (p .2) (frames-one 1 fs f one) (frames-other 2 fs f (rw one refl)))
-    (λ o. cases (eqb (code-of f) 2) (λ c.
-    let p = start-passed n u (f .bytes) (rw (o, c) at e) in
-    let two = eqb-true _ _ c in
-    let alone = ap (λ (l : List Frame). l ++ (f ∷ [])) (none-is (starts-in fs) (p .0)) in
-    start o two (p .2) (frames-other 1 fs f o) (frames-one 2 fs f two ∙ alone))
-    (λ c. note o c (frames-other 1 fs f o) (frames-other 2 fs f c)))
+goes fs f e = cases (eqb (code-of f) 1) an-equation
+    (λ o. cases (eqb (code-of f) 2) (a-start o) (λ c. note o c (frames-other 1 fs f o) (frames-other 2 fs f c)))
+  where
+    an-equation : eqb (code-of f) 1 ≡ true → Goes fs f
+    an-equation c =
+        let p = equation-passed _ _ (f .bytes) (rw c at e) in
+        let one = eqb-true _ _ c in
+        equation one (p .1) (p .2) (frames-one 1 fs f one) (frames-other 2 fs f (rw one refl))
+
+    a-start : eqb (code-of f) 1 ≡ false → eqb (code-of f) 2 ≡ true → Goes fs f
+    a-start o c =
+        let p = start-passed _ _ (f .bytes) (rw (o, c) at e) in
+        let two = eqb-true _ _ c in
+        let alone = ap (λ (l : List Frame). l ++ (f ∷ [])) (none-is (starts-in fs) (p .0)) in
+        start o two (p .2) (frames-other 1 fs f o) (frames-one 2 fs f two ∙ alone)
 
 pub kept-more : {fs : List Frame} {f : Frame} → Goes fs f → Kept fs → Kept (fs ++ (f ∷ []))
 kept-more {fs} {f} (equation c l e es ss) k = record
@@ -218,8 +219,7 @@ kept-more {fs} {f} (note o c es ss) k = record { sound = rw es (k .sound); begun
 map-more : {A B : Type 0} (g : A → B) (l : List A) (a : A) (x : B) → length l < 8
     → eight x (map g (l ++ (a ∷ []))) ≡ set (eight x (map g l)) (length l) (g a)
 map-more g l a x h =
-    ap (eight x) (map-append g l (a ∷ [])) ∙ sym (eight-more x (map g l) (g a) (omega (arith, length-map l g))) ∙
-    ap (λ (n : ℕ). set (eight x (map g l)) n (g a)) (length-map l g)
+    rw (map-append g l (a ∷ []), ← eight-more x (map g l) (g a) (omega (arith, length-map l g)), length-map l g)
 
 record-more : (place : ℕ → ℕ) (es ss : List Frame) (f : Frame) → length es < 8
     → model-record place (es ++ (f ∷ [])) ss

@@ -9,9 +9,10 @@ use lib.Dec.{eqb, leb, ltb}
 use lib.ListN.{length, getD, take, drop, replicate, length-drop, length-map, length-append, length-replicate, length-take}
 use lib.ListN.{drop-of-length-le}
 use lib.Seq.{take-at, drop-cons}
-use borrow.Author.Tests.{lt-leb, eq-eqb, ne-eqb}
-use Rattle.meaning.specs.Logic.{_and_}
-use Rattle.meaning.specs.Ranges.{signatures, within, typed}
+use borrow.Author.Tests.{leb-true, leb-false, eq-eqb, ne-eqb}
+use Rattle.meaning.specs.Logic.{_and_, and-false}
+use Rattle.meaning.specs.Ranges.{signatures, typed}
+use Rattle.meaning.specs.WordLaws.{four-of, first-of-four}
 use Rattle.frames.specs.Lines.{line-place}
 use Rattle.frames.specs.Frames.{Frame, frames}
 use Rattle.formulas.specs.declared.Equation.{Equation}
@@ -20,16 +21,14 @@ use Rattle.formulas.proofs.Decoded.{body-short}
 use Rattle.reading.specs.declared.Model.{Model}
 use Rattle.reading.specs.declared.Outcome.{Outcome}
 use Rattle.reading.specs.Contract.{stopped, start-from, is-start, fits-at, FirstMisfit, Finishes, no-start, misfits}
-use Rattle.reading.specs.Contract.{wrong-start, passes}
-use Rattle.reading.specs.Contract.{LinesRead}
+use Rattle.reading.specs.Contract.{wrong-start, passes, LinesRead}
 use Rattle.reading.specs.Equations.{four-ranges, ranges-in, body-in, equation-of, start-of}
 use Rattle.reading.specs.Models.{frames-with, equations-in, starts-in, is-none, first-of, model-of}
 use Rattle.reading.specs.Reading.{Refusal, refused, instances-judged, start-judged, finished, text-refusal}
 use Rattle.reading.specs.Records.{equation-record, start-record, eight, model-record, bodies-over, reading}
-use Rattle.meaning.specs.Logic.{and-false}
+use Rattle.reading.proofs.Refusals.{cases}
 use Rattle.reading.proofs.Starts.{other-length}
-use Rattle.reading.proofs.Drafts.{Drafted, no-frame, count-is, unstarted-is, length-bodies}
-use Rattle.reading.proofs.Drafts.{body-stored}
+use Rattle.reading.proofs.Drafts.{Drafted, no-frame, count-is, unstarted-is, length-bodies, body-stored}
 
 -- ---- lists
 eight-length : {A B : Type 0} (g : A → B) (l : List A) (x : B) → length l ≤ 8 → length (eight x (map g l)) ≡ 8
@@ -142,18 +141,11 @@ module _ (sigs : List (List ℕ)) (others : Refusal) where
 
 -- ---- 8: the start of the records, with the first four of its arguments, against that of the frame
 within-four : (sigs : List (List ℕ)) (e : ℕ) (x : List ℕ) → ((i : ℕ) → length (getD sigs i []) ≤ 4)
-    → leb (length x) 4 && typed sigs (e ∷ take (length x) (getD x 0 0 ∷ getD x 1 0 ∷ getD x 2 0 ∷ getD x 3 0 ∷ [])) ≡ typed sigs
-    (e ∷ x)
-unfolding typed within _and_
-within-four sigs e [] f = refl
-within-four sigs e (a ∷ []) f = refl
-within-four sigs e (a ∷ b ∷ []) f = refl
-within-four sigs e (a ∷ b ∷ c ∷ []) f = refl
-within-four sigs e (a ∷ b ∷ c ∷ z ∷ []) f = refl
-within-four sigs e (a ∷ b ∷ c ∷ z ∷ y ∷ x) f =
-    let long : leb (length (a ∷ b ∷ c ∷ z ∷ y ∷ x)) 4 ≡ false = lt-leb (length (a ∷ b ∷ c ∷ z ∷ y ∷ x)) 4 (omega arith) in
-    rw long (sym (ap (λ (w : Bool). ltb e (length sigs) and w)
-    (other-length (a ∷ b ∷ c ∷ z ∷ y ∷ x) (getD sigs e []) (λ q. omega (arith, f e, q))) ∙ and-false (ltb e (length sigs))))
+    → leb (length x) 4 && typed sigs (e ∷ take (length x) (four-of x)) ≡ typed sigs (e ∷ x)
+unfolding typed _and_
+within-four sigs e x f = cases (leb (length x) 4) (λ h. rw (h, first-of-four x (leb-true _ 4 h)))
+    (λ h. rw (h, other-length x (getD sigs e []) (λ q. omega (arith, f e, q, leb-false (length x) 4 h)))
+    (sym (and-false (ltb e (length sigs)))))
 
 start-same : (sigs : List (List ℕ)) (line : ℕ) (f : List ℕ) → 2 ≤ length f → ((i : ℕ) → length (getD sigs i []) ≤ 4)
     → leb (start-record line f .count) 4 && typed sigs

@@ -7,13 +7,13 @@ use mathlib.Core.Bool.{Bool, true, false, cond, _&&_, and-false}
 use mathlib.Core.List.{List, [], _∷_}
 use lib.Dec.{eqb, ltb, leb}
 use lib.ListN.{length, getD, take, length-take}
-use lib.Seq.{take-all}
 use borrow.Author.Tests.{le-leb, leb-true, lt-ltb, le-ltb, eqb-true, eqb-false}
 use Rattle.meaning.specs.Logic.{_and_, eq→Is}
 use Rattle.meaning.specs.Typed.{within-length}
 use Rattle.meaning.specs.Ranges.{is-range, all-ranges, within, typed}
+use Rattle.meaning.specs.WordLaws.{four-of, first-of-four}
 use Rattle.formulas.specs.Bodies.{blank, ranges-of}
-use Rattle.formulas.proofs.Bodies.{take-most, signature, signatures-length, signature-at}
+use Rattle.formulas.proofs.Bodies.{take-most, signatures-length, signature-at}
 use Rattle.reading.specs.declared.Model.{Model}
 use Rattle.reading.specs.Contract.{is-start}
 use Rattle.reading.proofs.Refusals.{cases}
@@ -33,11 +33,8 @@ asked n x rs i = cond (ltb i n) (ltb (getD x i 0) (getD rs i 0)) true
 abbrev asked-four : ℕ → List ℕ → List ℕ → Bool
 asked-four n x rs = asked n x rs 0 && (asked n x rs 1 && (asked n x rs 2 && asked n x rs 3))
 
-abbrev first-four : List ℕ → List ℕ
-first-four l = getD l 0 0 ∷ getD l 1 0 ∷ getD l 2 0 ∷ getD l 3 0 ∷ []
-
-all-four : (l : List ℕ) → length l ≡ 4 → first-four l ≡ l
-all-four l h = signature l [] 4 4 h refl .0 ∙ take-all 4 l (omega arith)
+all-four : (l : List ℕ) → length l ≡ 4 → four-of l ≡ l
+all-four l h = rw h at (first-of-four l (omega arith))
 
 pub four-ranges : (l : List ℕ) → length l ≡ 4
     → is-range (getD l 0 0) && (is-range (getD l 1 0) && (is-range (getD l 2 0) && is-range (getD l 3 0))) ≡ all-ranges l
@@ -65,7 +62,7 @@ module _ (n k m : ℕ) (x rs : List ℕ) (hx : length x ≡ 4) (hr : length rs �
   same : (i : ℕ) → i ≤ 4 → asked-four i x rs ≡ within (take i x) (take i rs)
   same i h =
       subst (λ (l : List ℕ). asked-four i l rs ≡ within (take i l) (take i rs)) (all-four x hx)
-      (subst (λ (l : List ℕ). asked-four i (first-four x) l ≡ within (take i (first-four x)) (take i l)) (all-four rs hr)
+      (subst (λ (l : List ℕ). asked-four i (four-of x) l ≡ within (take i (four-of x)) (take i l)) (all-four rs hr)
       (same-number (getD x 0 0) (getD x 1 0) (getD x 2 0) (getD x 3 0) (getD rs 0 0) (getD rs 1 0) (getD rs 2 0) (getD rs 3 0) i
       h))
 

@@ -61,8 +61,7 @@ module _ (t : List ℕ) (at : ℕ) {f : FrameAt} (e : f ≡ frame-at t at) where
       number = 0;
       end = end-at t at;
       size = length (line-at t at .characters) / 2;
-      bytes = padded
-          (bytes-of (line-at t at .characters));
+      bytes = padded (bytes-of (line-at t at .characters));
     }
     unfolding frame-at
     is-frame = e ∙ rw (sym number-is ∙ z) refl

@@ -48,10 +48,13 @@ instances-passed sigs (f ∷ es) others e =
 
 finished-passed : (fs : List Frame) (i : ℕ) → Kept fs → finished fs i .number ≡ 0 → Passed fs
 unfolding finished start-judged
-finished-passed fs i k e = cases (is-none (starts-in fs)) (λ b. absurd (omega (arith, rw b at e))) (λ b.
-    let seven = instances-passed (signatures (model-of fs)) (equations-in fs) _ (rw b at e) in
-    let eight = passed number-of (typed (signatures (model-of fs)) (start-in fs)) (seven .1) (omega arith) in
-    record { frames-kept = k; started = b; fit = seven .0; starts = eight .0 })
+finished-passed fs i k e = cases (is-none (starts-in fs)) (λ b. absurd (omega (arith, rw b at e))) begun
+  where
+    begun : is-none (starts-in fs) ≡ false → Passed fs
+    begun b =
+        let seven = instances-passed (signatures (model-of fs)) (equations-in fs) _ (rw b at e) in
+        let eight = passed number-of (typed (signatures (model-of fs)) (start-in fs)) (seven .1) (omega arith) in
+        record { frames-kept = k; started = b; fit = seven .0; starts = eight .0 }
 
 frames-passed : (done fs : List Frame) (end : Refusal) → Kept done → frames-judged done fs end .number ≡ 0 → Passed (done ++ fs)
 unfolding frames-judged
