@@ -36,25 +36,23 @@ pub(crate) fn no_model() -> Model
     }
 }
 
-fn with_equation(m: Model, line: usize, e: Equation) -> Model
+fn with_equation(mut m: Model, line: usize, e: Equation) -> Model
     requires { ⌜ m .count < 8 ⌝ }
     ensures { λ r. ⌜ r ≡ with-equation m line e ⌝ }
 {
-    let mut s = m;
-    let j = s.count;
-    s.equations[j] = e;
-    s.lines[j] = line;
-    s.count = j + 1;
-    s
+    let j = m.count;
+    m.equations[j] = e;
+    m.lines[j] = line;
+    m.count = j + 1;
+    m
 }
 
-fn with_start(m: Model, s: Start) -> Model
+fn with_start(mut m: Model, s: Start) -> Model
     ensures { λ r. ⌜ r ≡ with-start m s ⌝ }
 {
-    let mut x = m;
-    x.started = true;
-    x.start = s;
-    x
+    m.started = true;
+    m.start = s;
+    m
 }
 
 // The model with a frame that is not refused, of the line that begins at `place`.

@@ -74,8 +74,7 @@ pub(crate) fn finish(bodies: &[u8], m: Model, line: usize) -> Outcome
         return stop(7, m.lines[j]);
     }
     if !is_valid_start(m) {
-        let s = m.start;
-        return stop(8, s.line);
+        return stop(8, m.start.line);
     }
     Outcome {
         number: 0,

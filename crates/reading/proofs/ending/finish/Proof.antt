@@ -23,11 +23,11 @@ all-fit c =
 
 wrong : tie.Need-returns-3
 wrong c =
-    let start = c .before .before .before in
+    let start = c .before .before in
     let all = start .before in
     rw (c .stop3 .ensures)
     (wrong-start (not-false _ (all .before .before .if1 .left)) (all-fit all)
-    (sym (start .is-valid-start .ensures) ∙ not-true _ (c .before .before .if3 .taken)))
+    (sym (start .is-valid-start .ensures) ∙ not-true _ (c .before .if3 .taken)))
 
 right : tie.Need-returns-4
 right c =
