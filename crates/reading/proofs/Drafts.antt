@@ -3,13 +3,11 @@
 use Prim.Native.Nat.{ℕ, zero, suc, _+_, _-_, _*_, _≤_, _<_}
 use native.Mathlib.Omega.{arith}
 use native.Mathlib.Decide.{decLt}
-use native.Mathlib.Numerals.{add-one}
 use mathlib.Core.Path.{_≡_, refl, sym, ap, ap₂, _∙_}
-use mathlib.Core.Bool.{Bool, true, false, cond, not, _&&_, true≢false}
+use mathlib.Core.Bool.{Bool, true, false, not, _&&_, true≢false, Bool·not-not}
 use mathlib.Core.List.{List, [], _∷_, _++_, map, map-append, append-assoc, append-nil}
 use lib.Dec.{eqb, ltb, leb}
-use lib.ListN.{length, getD, take, drop, set, replicate, length-append, length-map, length-replicate, List·getD-append}
-use lib.ListN.{List·getD-map}
+use lib.ListN.{length, getD, take, drop, set, replicate, length-append, length-map, List·getD-append}
 use lib.Seq.{sets, set-at, take-set-le, drop-set-add, drop-at, length-take-le, take-append-seam, length-sets, sets-eq}
 use lib.Seq.{getD-append-add}
 use borrow.Author.Tests.{eqb-true, eq-eqb, ltb-true, leb-true}
@@ -22,7 +20,7 @@ use Rattle.reading.specs.Equations.{ranges-in, body-in, is-valid-head}
 use Rattle.reading.specs.Models.{code-of, frames-with, equations-in, starts-in, is-none, first-of}
 use Rattle.reading.specs.Reading.{equation-refusal, start-refusal, frame-refusal}
 use Rattle.reading.specs.Records.{equation-record, start-record, no-equation, eight, model-record, bodies-over, bodies-of}
-use Rattle.reading.proofs.Refusals.{&&-left, &&-right}
+use Rattle.reading.proofs.Refusals.{cases, &&-left, &&-right, passed}
 
 -- ---- what 5 and 6 leave of an equation's frame
 pub record EquationSound (f : List ℕ) : Type 0 where
@@ -60,13 +58,9 @@ frames-more : (code : ℕ) (fs : List Frame) (f : Frame)
     → frames-with code (fs ++ (f ∷ [])) ≡ frames-with code fs ++ frames-with code (f ∷ [])
 unfolding frames-with
 frames-more code [] f = refl
-frames-more code (g ∷ fs) f = by (eqb (code-of g) code) (frames-more code fs f)
-  where
-    by : (b : Bool) → frames-with code (fs ++ (f ∷ [])) ≡ frames-with code fs ++ frames-with code (f ∷ [])
-        → cond b (g ∷ frames-with code (fs ++ (f ∷ []))) (frames-with code (fs ++ (f ∷ [])))
-        ≡ cond b (g ∷ frames-with code fs) (frames-with code fs) ++ frames-with code (f ∷ [])
-    by true e = ap (λ (l : List Frame). g ∷ l) e
-    by false e = e
+frames-more code (g ∷ fs) f =
+    let more = frames-more code fs f in
+    cases (eqb (code-of g) code) (λ e. rw e (ap (λ (l : List Frame). g ∷ l) more)) (λ e. rw e more)
 
 module _ (code : ℕ) (fs : List Frame) (f : Frame) where
   frames-one : code-of f ≡ code → frames-with code (fs ++ (f ∷ [])) ≡ frames-with code fs ++ (f ∷ [])
@@ -119,10 +113,9 @@ part-bodies n p j (f ∷ fs) there h =
 -- what was stored stands where it was stored
 stored-part : (l w : List ℕ) (q : ℕ) → q + length w ≤ length l → take (length w) (drop q (sets l q w)) ≡ w
 stored-part l w q h =
-    ap (λ (x : List ℕ). take (length w) (drop q x)) (sets-eq w l q h) ∙
-    ap (λ (x : List ℕ). take (length w) (drop q x)) (append-assoc (take q l) w (drop (q + length w) l)) ∙
-    ap (take (length w)) (drop-at (take q l) (w ++ drop (q + length w) l) q (length-take-le q l (omega arith))) ∙
-    take-append-seam w (drop (q + length w) l)
+    let first = length-take-le q l (omega arith) in
+    rw (sets-eq w l q h, append-assoc (take q l) w (drop (q + length w) l), drop-at (take q l) _ q first)
+    (take-append-seam w _)
 
 pub body-stored : (j : ℕ) (fs : List Frame) (there : List ℕ) (i : ℕ) → i < length fs
     → ((k : ℕ) → k < length fs → length (body-in (getD fs k no-frame .bytes)) ≤ 256)
@@ -155,24 +148,20 @@ unfolding bodies-over frames-with
 drafted-none place e b = record { model = e; stored = b; kept = kept-none }
 
 -- ---- what a frame that is not refused is
-passed : (b : Bool) (n r : ℕ) → 0 < n → cond b r n ≡ 0 → (b ≡ true) × (r ≡ 0)
-passed true n r h e = (refl, e)
-passed false n r h e = absurd (omega arith)
-
 -- an equation: before the start, not the ninth, sound
 pub equation-passed : (n : ℕ) (u : Bool) (f : List ℕ) → equation-refusal n u f ≡ 0 → (u ≡ true) × (n < 8) × EquationSound f
 unfolding equation-refusal
 equation-passed n u f e =
-    let four = passed (u && ltb n 8) 4 _ (omega arith) e in
-    let five = passed (is-valid-head f) 5 _ (omega arith) (four .1) in
-    let six = passed (is-body (body-in f) (ranges-in f)) 6 0 (omega arith) (five .1) in
+    let four = passed (λ n. n) (u && ltb n 8) e (omega arith) in
+    let five = passed (λ n. n) (is-valid-head f) (four .1) (omega arith) in
+    let six = passed (λ n. n) (is-body (body-in f) (ranges-in f)) (five .1) (omega arith) in
     (&&-left _ _ (four .0), ltb-true n 8 (&&-right u _ (four .0)), record { head = five .0; body = six .0 })
 
 pub start-passed : (n : ℕ) (u : Bool) (f : List ℕ) → start-refusal n u f ≡ 0 → (u ≡ true) × (0 < n) × (2 ≤ length f)
 unfolding start-refusal
 start-passed n u f e =
-    let four = passed (u && ltb 0 n) 4 _ (omega arith) e in
-    let five = passed (leb 2 (length f)) 5 0 (omega arith) (four .1) in
+    let four = passed (λ n. n) (u && ltb 0 n) e (omega arith) in
+    let five = passed (λ n. n) (leb 2 (length f)) (four .1) (omega arith) in
     (&&-left _ _ (four .0), ltb-true 0 n (&&-right u _ (four .0)), leb-true 2 (length f) (five .0))
 
 -- ---- one frame more
@@ -205,31 +194,21 @@ refusal-after fs f = frame-refusal (length (equations-in fs)) (is-none (starts-i
 
 pub goes : (fs : List Frame) (f : Frame) → refusal-after fs (f .bytes) ≡ 0 → Goes fs f
 unfolding frame-refusal
-goes fs f = one (eqb (code-of f) 1) refl
+goes fs f e = cases (eqb (code-of f) 1) an-equation
+    (λ o. cases (eqb (code-of f) 2) (a-start o) (λ c. note o c (frames-other 1 fs f o) (frames-other 2 fs f c)))
   where
-    n : ℕ
-    n = length (equations-in fs)
+    an-equation : eqb (code-of f) 1 ≡ true → Goes fs f
+    an-equation c =
+        let p = equation-passed _ _ (f .bytes) (rw c at e) in
+        let one = eqb-true _ _ c in
+        equation one (p .1) (p .2) (frames-one 1 fs f one) (frames-other 2 fs f (rw one refl))
 
-    u : Bool
-    u = is-none (starts-in fs)
-
-    two : (b : Bool) → eqb (code-of f) 2 ≡ b → eqb (code-of f) 1 ≡ false
-        → cond b (start-refusal n u (f .bytes)) (cond (eqb (code-of f) 3) 0 4) ≡ 0 → Goes fs f
-    two true c o e =
-        let p = start-passed n u (f .bytes) e in
+    a-start : eqb (code-of f) 1 ≡ false → eqb (code-of f) 2 ≡ true → Goes fs f
+    a-start o c =
+        let p = start-passed _ _ (f .bytes) (rw (o, c) at e) in
+        let two = eqb-true _ _ c in
         let alone = ap (λ (l : List Frame). l ++ (f ∷ [])) (none-is (starts-in fs) (p .0)) in
-        start o (eqb-true _ _ c) (p .2) (frames-other 1 fs f o) (frames-one 2 fs f (eqb-true _ _ c) ∙ alone)
-    two false c o e = note o c (frames-other 1 fs f o) (frames-other 2 fs f c)
-
-    one : (b : Bool) → eqb (code-of f) 1 ≡ b
-        → cond b (equation-refusal n u (f .bytes))
-        (cond (eqb (code-of f) 2) (start-refusal n u (f .bytes)) (cond (eqb (code-of f) 3) 0 4)) ≡ 0
-        → Goes fs f
-    one true c e =
-        let p = equation-passed n u (f .bytes) e in
-        let q = eqb-true _ _ c in
-        equation q (p .1) (p .2) (frames-one 1 fs f q) (frames-other 2 fs f (rw q refl))
-    one false c e = two (eqb (code-of f) 2) refl c e
+        start o two (p .2) (frames-other 1 fs f o) (frames-one 2 fs f two ∙ alone)
 
 pub kept-more : {fs : List Frame} {f : Frame} → Goes fs f → Kept fs → Kept (fs ++ (f ∷ []))
 kept-more {fs} {f} (equation c l e es ss) k = record
@@ -240,20 +219,15 @@ kept-more {fs} {f} (note o c es ss) k = record { sound = rw es (k .sound); begun
 map-more : {A B : Type 0} (g : A → B) (l : List A) (a : A) (x : B) → length l < 8
     → eight x (map g (l ++ (a ∷ []))) ≡ set (eight x (map g l)) (length l) (g a)
 map-more g l a x h =
-    ap (eight x) (map-append g l (a ∷ [])) ∙ sym (eight-more x (map g l) (g a) (omega (arith, length-map l g))) ∙
-    ap (λ (n : ℕ). set (eight x (map g l)) n (g a)) (length-map l g)
+    rw (map-append g l (a ∷ []), ← eight-more x (map g l) (g a) (omega (arith, length-map l g)), length-map l g)
 
 record-more : (place : ℕ → ℕ) (es ss : List Frame) (f : Frame) → length es < 8
     → model-record place (es ++ (f ∷ [])) ss
     ≡ with-equation (model-record place es ss) (f .line) (equation-record (place (f .line)) (f .bytes))
 unfolding model-record with-equation
 record-more place es ss f h =
-    rw (
-      length-append es (f ∷ []),
-      map-more (λ f. equation-record (place (f .line)) (f .bytes)) es f no-equation h,
-      map-more
-          (λ f. f .line) es f 0 h,
-    ) refl
+    let record-of : Frame → Equation = λ f. equation-record (place (f .line)) (f .bytes) in
+    rw (length-append es (f ∷ []), map-more record-of es f no-equation h, map-more (λ f. f .line) es f 0 h) refl
 
 record-start : (place : ℕ → ℕ) (es ss : List Frame) (f : Frame)
     → model-record place es (f ∷ []) ≡ with-start (model-record place es ss) (start-record (f .line) (f .bytes))
@@ -267,11 +241,7 @@ module _ {place : ℕ → ℕ} {fs : List Frame} {m : Model} {bodies : List ℕ}
 
   pub unstarted-is : not (m .started) ≡ is-none (starts-in fs)
   unfolding model-record
-  unstarted-is = ap (λ (m : Model). not (m .started)) (d .model) ∙ twice (is-none (starts-in fs))
-    where
-      twice : (b : Bool) → not (not b) ≡ b
-      twice true = refl
-      twice false = refl
+  unstarted-is = ap (λ (m : Model). not (m .started)) (d .model) ∙ Bool·not-not (is-none (starts-in fs))
 
   module _ (line at : ℕ) (f : List ℕ) (p : place line ≡ at) where
     abbrev frame : Frame

@@ -7,11 +7,12 @@ use mathlib.Core.Bool.{Bool, true, false, cond, not, _&&_}
 use mathlib.Core.List.{List, [], _∷_, _++_, map}
 use lib.Dec.{eqb, leb, ltb}
 use lib.ListN.{length, getD, take, drop, replicate, length-drop, length-map, length-append, length-replicate, length-take}
-use lib.ListN.{List·getD-append, List·getD-map}
-use lib.Seq.{take-at}
-use borrow.Author.Tests.{lt-leb, eq-eqb, ne-eqb}
-use Rattle.meaning.specs.Logic.{_and_}
-use Rattle.meaning.specs.Ranges.{signatures, within, typed}
+use lib.ListN.{drop-of-length-le}
+use lib.Seq.{take-at, drop-cons}
+use borrow.Author.Tests.{leb-true, leb-false, eq-eqb, ne-eqb}
+use Rattle.meaning.specs.Logic.{_and_, and-false}
+use Rattle.meaning.specs.Ranges.{signatures, typed}
+use Rattle.meaning.specs.WordLaws.{four-of, first-of-four}
 use Rattle.frames.specs.Lines.{line-place}
 use Rattle.frames.specs.Frames.{Frame, frames}
 use Rattle.formulas.specs.declared.Equation.{Equation}
@@ -20,16 +21,14 @@ use Rattle.formulas.proofs.Decoded.{body-short}
 use Rattle.reading.specs.declared.Model.{Model}
 use Rattle.reading.specs.declared.Outcome.{Outcome}
 use Rattle.reading.specs.Contract.{stopped, start-from, is-start, fits-at, FirstMisfit, Finishes, no-start, misfits}
-use Rattle.reading.specs.Contract.{wrong-start, passes}
-use Rattle.reading.specs.Contract.{LinesRead}
+use Rattle.reading.specs.Contract.{wrong-start, passes, LinesRead}
 use Rattle.reading.specs.Equations.{four-ranges, ranges-in, body-in, equation-of, start-of}
 use Rattle.reading.specs.Models.{frames-with, equations-in, starts-in, is-none, first-of, model-of}
 use Rattle.reading.specs.Reading.{Refusal, refused, instances-judged, start-judged, finished, text-refusal}
 use Rattle.reading.specs.Records.{equation-record, start-record, eight, model-record, bodies-over, reading}
-use Rattle.meaning.specs.Logic.{and-false}
-use Rattle.reading.proofs.Starts.{within-length}
-use Rattle.reading.proofs.Drafts.{EquationSound, Sound, Drafted, no-frame, count-is, unstarted-is, length-bodies}
-use Rattle.reading.proofs.Drafts.{body-stored}
+use Rattle.reading.proofs.Refusals.{cases}
+use Rattle.reading.proofs.Starts.{other-length}
+use Rattle.reading.proofs.Drafts.{Drafted, no-frame, count-is, unstarted-is, length-bodies, body-stored}
 
 -- ---- lists
 eight-length : {A B : Type 0} (g : A → B) (l : List A) (x : B) → length l ≤ 8 → length (eight x (map g l)) ≡ 8
@@ -37,17 +36,12 @@ eight-length g l x h =
     let n = 8 - length (map g l) in
     omega (arith, length-append (map g l) (replicate n x), length-replicate n x, length-map l g)
 
-getD-any : {A : Type 0} (l : List A) (j : ℕ) (a b : A) → j < length l → getD l j a ≡ getD l j b
-getD-any [] j a b h = absurd (omega arith)
-getD-any (x ∷ l) zero a b h = refl
-getD-any (x ∷ l) (suc j) a b h = getD-any l j a b (omega arith)
-
--- one of a list that was mapped and filled up to eight
-eight-at : {A B : Type 0} (g : A → B) (l : List A) (j : ℕ) (a : A) (x b : B) → j < length l
-    → getD (eight x (map g l)) j b ≡ g (getD l j a)
-eight-at g l j a x b h =
-    let m : j < length (map g l) = omega (arith, length-map l g) in
-    List·getD-append (map g l) _ b j m ∙ getD-any (map g l) j b (g a) m ∙ List·getD-map g l j a
+-- one of a list that was mapped and filled up
+mapped-at : {A B : Type 0} (g : A → B) (l : List A) (more : List B) (j : ℕ) (a : A) (b : B) → j < length l
+    → getD (map g l ++ more) j b ≡ g (getD l j a)
+mapped-at g [] more j a b h = absurd (omega arith)
+mapped-at g (x ∷ l) more zero a b h = refl
+mapped-at g (x ∷ l) more (suc j) a b h = mapped-at g l more j a b (omega arith)
 
 -- ---- the sizes that the code asks for
 module _ {place : ℕ → ℕ} {fs : List Frame} {m : Model} {bodies : List ℕ} (d : Drafted place fs m bodies) where
@@ -80,11 +74,11 @@ module _ {place : ℕ → ℕ} {fs : List Frame} {m : Model} {bodies : List ℕ}
     unfolding model-record
     equation-there =
         ap (λ (m : Model). getD (m .equations) j blank) (d .model) ∙
-        eight-at (λ f. equation-record (place (f .line)) (f .bytes)) es j no-frame _ blank in-frames
+        mapped-at (λ f. equation-record (place (f .line)) (f .bytes)) es _ j no-frame blank in-frames
 
     pub line-there : getD (m .lines) j 0 ≡ there .line
     unfolding model-record
-    line-there = ap (λ (m : Model). getD (m .lines) j 0) (d .model) ∙ eight-at (λ f. f .line) es j no-frame 0 0 in-frames
+    line-there = ap (λ (m : Model). getD (m .lines) j 0) (d .model) ∙ mapped-at (λ f. f .line) es _ j no-frame 0 in-frames
 
     length-there : getD (m .equations) j blank .length ≡ length (body-in (there .bytes))
     unfolding equation-record
@@ -137,34 +131,21 @@ module _ (sigs : List (List ℕ)) (others : Refusal) where
   abbrev fitting : Frame → Bool
   fitting f = is-fitting sigs (body-in (f .bytes)) (ranges-in (f .bytes))
 
-  -- the first that does not fit is refused; where all fit, the others are asked
-  pub judged-at : (es : List Frame) (r : ℕ) → r < length es → ((j : ℕ) → j < r → fitting (getD es j no-frame) ≡ true)
-      → fitting (getD es r no-frame) ≡ false → instances-judged sigs es others ≡ refused 7 (getD es r no-frame .line)
+  -- where the first r fit, the others are asked
+  pub judged-on : (es : List Frame) (r : ℕ) → ((j : ℕ) → j < r → fitting (getD es j no-frame) ≡ true)
+      → instances-judged sigs es others ≡ instances-judged sigs (drop r es) others
   unfolding instances-judged
-  judged-at [] r h f g = absurd (omega arith)
-  judged-at (e ∷ es) zero h f g = rw g refl
-  judged-at (e ∷ es) (suc r) h f g = rw (f 0 (omega arith)) (judged-at es r (omega arith) (λ j l. f (suc j) (omega arith)) g)
-
-  pub judged-all : (es : List Frame) → ((j : ℕ) → j < length es → fitting (getD es j no-frame) ≡ true)
-      → instances-judged sigs es others ≡ others
-  unfolding instances-judged
-  judged-all [] f = refl
-  judged-all (e ∷ es) f = rw (f 0 (omega arith)) (judged-all es (λ j l. f (suc j) (omega arith)))
+  judged-on es zero f = refl
+  judged-on [] (suc r) f = refl
+  judged-on (e ∷ es) (suc r) f = rw (f 0 (omega arith)) (judged-on es r (λ j l. f (suc j) (omega arith)))
 
 -- ---- 8: the start of the records, with the first four of its arguments, against that of the frame
 within-four : (sigs : List (List ℕ)) (e : ℕ) (x : List ℕ) → ((i : ℕ) → length (getD sigs i []) ≤ 4)
-    → leb (length x) 4 && typed sigs (e ∷ take (length x) (getD x 0 0 ∷ getD x 1 0 ∷ getD x 2 0 ∷ getD x 3 0 ∷ [])) ≡ typed sigs
-    (e ∷ x)
-unfolding typed within _and_
-within-four sigs e [] f = refl
-within-four sigs e (a ∷ []) f = refl
-within-four sigs e (a ∷ b ∷ []) f = refl
-within-four sigs e (a ∷ b ∷ c ∷ []) f = refl
-within-four sigs e (a ∷ b ∷ c ∷ z ∷ []) f = refl
-within-four sigs e (a ∷ b ∷ c ∷ z ∷ y ∷ x) f =
-    let long : leb (length (a ∷ b ∷ c ∷ z ∷ y ∷ x)) 4 ≡ false = lt-leb (length (a ∷ b ∷ c ∷ z ∷ y ∷ x)) 4 (omega arith) in
-    rw long (sym (ap (λ (w : Bool). ltb e (length sigs) and w)
-    (within-length (a ∷ b ∷ c ∷ z ∷ y ∷ x) (getD sigs e []) (λ q. omega (arith, f e, q))) ∙ and-false (ltb e (length sigs))))
+    → leb (length x) 4 && typed sigs (e ∷ take (length x) (four-of x)) ≡ typed sigs (e ∷ x)
+unfolding typed _and_
+within-four sigs e x f = cases (leb (length x) 4) (λ h. rw (h, first-of-four x (leb-true _ 4 h)))
+    (λ h. rw (h, other-length x (getD sigs e []) (λ q. omega (arith, f e, q, leb-false (length x) 4 h)))
+    (sym (and-false (ltb e (length sigs)))))
 
 start-same : (sigs : List (List ℕ)) (line : ℕ) (f : List ℕ) → 2 ≤ length f → ((i : ℕ) → length (getD sigs i []) ≤ 4)
     → leb (start-record line f .count) 4 && typed sigs
@@ -182,67 +163,9 @@ signatures-short (f ∷ fs) zero = omega (arith, length-take (getD (f .bytes) 2 
 signatures-short (f ∷ fs) (suc i) = signatures-short fs i
 
 -- ---- all together
-pub record Ended (fs : List Frame) (line : ℕ) (m : Model) (r : Outcome) : Type 0 where
-  pub number : r .number ≡ finished fs line .number
-  pub line-of : r .line ≡ finished fs line .line
-  pub nothing : (r .number ≡ 0 → ⊥) → (place : ℕ → ℕ) → r .model ≡ model-record place [] []
-  pub model : r .number ≡ 0 → r .model ≡ m
-
--- a refusal
-pub nowhere : (place : ℕ → ℕ) → model-record (λ i. 0) [] [] ≡ model-record place [] []
+nowhere : (place : ℕ → ℕ) → model-record (λ i. 0) [] [] ≡ model-record place [] []
 unfolding model-record
 nowhere place = refl
-
-module _ {place : ℕ → ℕ} {fs : List Frame} {m : Model} {bodies : List ℕ} (d : Drafted place fs m bodies) (line : ℕ) where
-  refused-so : (n i : ℕ) → 0 < n → finished fs line ≡ refused n i → Ended fs line m (stopped n i)
-  refused-so n i h e = record {
-    number = sym (ap (λ (r : Refusal). r .number) e);
-    line-of = sym (ap (λ (r : Refusal). r .line) e);
-    nothing = λ _. nowhere;
-    model = λ z. absurd (omega (arith, z));
-  }
-
-  begun : m .started ≡ true → is-none (starts-in fs) ≡ false
-  begun s = sym (unstarted-is d) ∙ ap not s
-
-  -- 8 as the code asks it
-  start-is : m .started ≡ true → is-start m ≡ typed (signatures (model-of fs)) (start-of (first-of (starts-in fs) .bytes))
-  unfolding is-start model-record model-of
-  start-is s =
-      ap (λ (x : List (List ℕ)). leb (m .start .count) 4 && typed x (start-from m)) (signatures-same d) ∙
-      ap (λ (x : Model). leb (x .start .count) 4 && typed (signatures (model-of fs)) (start-from x)) (d .model) ∙
-      start-same (signatures (model-of fs)) (first-of (starts-in fs) .line) (first-of (starts-in fs) .bytes)
-      (d .kept .begun (begun s))
-      (signatures-short (equations-in fs))
-
-  start-line : m .start .line ≡ first-of (starts-in fs) .line
-  unfolding model-record start-record
-  start-line = ap (λ (x : Model). x .start .line) (d .model)
-
-  all-fit : FirstMisfit m bodies (m .count) → (j : ℕ) → j < length (equations-in fs)
-      → fit d (getD (equations-in fs) j no-frame) ≡ true
-  all-fit f j h = let l : j < m .count = rw (count-is d) h in sym (fits-there d j l) ∙ f .fit j l
-
-  pub ended : {r : Outcome} → Finishes m bodies line r → Ended fs line m r
-  unfolding finished start-judged
-  ended (no-start s) = refused-so 4 line (omega arith) (rw (sym (unstarted-is d) ∙ ap not s) refl)
-  ended (misfits {j} s l f) =
-      let k : j < length (equations-in fs) = rw (count-is d) at l in
-      refused-so 7 _ (omega arith) (rw (begun s, line-there d j l)
-      (judged-at (signatures (model-of fs)) _ (equations-in fs) j k
-      (λ i h. sym (fits-there d i (omega arith)) ∙ f .fit i h) (sym (fits-there d j l) ∙ f .misfit l)))
-  ended (wrong-start s f e) =
-      refused-so 8 _ (omega arith) (rw (begun s) (judged-all (signatures (model-of fs)) _ (equations-in fs) (all-fit f) ∙
-      rw (sym (start-is s) ∙ e) (ap (refused 8) (sym start-line))))
-  ended (passes s f e) =
-      let z : finished fs line ≡ refused 0 0 = rw (begun s) (judged-all (signatures (model-of fs)) _ (equations-in fs) (all-fit f)
-      ∙ rw (sym (start-is s) ∙ e) refl) in
-      record {
-        number = sym (ap (λ (r : Refusal). r .number) z);
-        line-of = sym (ap (λ (r : Refusal). r .line) z);
-        nothing = λ h. absurd (h refl);
-        model = λ _. refl;
-      }
 
 -- a text that is refused
 pub lines-refused : (t after : List ℕ) (n i : ℕ) {r : Outcome} → r ≡ stopped n i → (n ≡ 0 → ⊥) → text-refusal t ≡ refused n i
@@ -256,18 +179,59 @@ lines-refused t after n i e z h = rw e (record {
 })
 
 -- a text whose lines were all read
-pub lines-ended : (t : List ℕ) {m : Model} {after : List ℕ} (d : Drafted (line-place t) (frames t .all) m after) (line : ℕ)
-    {r : Outcome}
-    → text-refusal t ≡ finished (frames t .all) line → Finishes m after line r → LinesRead t after r
-lines-ended t d line h f =
-    let e = ended d line f in
-    record {
-      number = e .number ∙ sym (ap (λ (r : Refusal). r .number) h);
-      line = e .line-of ∙ sym (ap (λ (r : Refusal). r .line) h);
-      nothing = e .nothing;
-      model = λ z. e .model z ∙ d .model;
-      bodies = λ z. d .stored;
-    }
+module _ (t : List ℕ) {m : Model} {bodies : List ℕ} (d : Drafted (line-place t) (frames t .all) m bodies) (line : ℕ)
+    (h : text-refusal t ≡ finished (frames t .all) line) where
+  abbrev all : List Frame
+  all = frames t .all
+
+  begun : {b : Bool} → m .started ≡ b → is-none (starts-in all) ≡ not b
+  begun s = sym (unstarted-is d) ∙ ap not s
+
+  -- 8 as the code asks it
+  start-is : m .started ≡ true → is-start m ≡ typed (signatures (model-of all)) (start-of (first-of (starts-in all) .bytes))
+  unfolding is-start model-record model-of
+  start-is s =
+      ap (λ (x : List (List ℕ)). leb (m .start .count) 4 && typed x (start-from m)) (signatures-same d) ∙
+      ap (λ (x : Model). leb (x .start .count) 4 && typed (signatures (model-of all)) (start-from x)) (d .model) ∙
+      start-same (signatures (model-of all)) (first-of (starts-in all) .line) (first-of (starts-in all) .bytes)
+      (d .kept .begun (begun s)) (signatures-short (equations-in all))
+
+  start-line : m .start .line ≡ first-of (starts-in all) .line
+  unfolding model-record start-record
+  start-line = ap (λ (x : Model). x .start .line) (d .model)
+
+  -- after the start: the first equations that fit are passed over
+  passed-over : {r : ℕ} → m .started ≡ true → FirstMisfit m bodies r → let sigs = signatures (model-of all) in
+      text-refusal t ≡ instances-judged sigs (drop r (equations-in all)) (start-judged sigs (first-of (starts-in all)))
+  unfolding finished
+  passed-over {r} s f =
+      let near = f .near in
+      h ∙ rw (begun s) (judged-on _ _ (equations-in all) r (λ j l. sym (fits-there d j (omega arith)) ∙ f .fit j l))
+
+  judged-start : m .started ≡ true → FirstMisfit m bodies (m .count)
+      → text-refusal t ≡ cond (is-start m) (refused 0 0) (refused 8 (m .start .line))
+  unfolding instances-judged start-judged
+  judged-start s f =
+      let none = drop-of-length-le (equations-in all) {i = m .count} (omega (arith, count-is d)) in
+      passed-over s f ∙ rw (none, start-is s, start-line) refl
+
+  pub lines-ended : {r : Outcome} → Finishes m bodies line r → LinesRead t bodies r
+  unfolding finished instances-judged
+  lines-ended (no-start s) = lines-refused t bodies 4 line refl (λ z. omega arith) (h ∙ rw (begun s) refl)
+  lines-ended (misfits {j} s l f) =
+      let there = drop-cons (equations-in all) j no-frame (rw (count-is d) at l) in
+      let misfit = sym (fits-there d j l) ∙ f .misfit l in
+      lines-refused t bodies 7 _ refl (λ z. omega arith) (passed-over s f ∙ rw (there, line-there d j l, misfit) refl)
+  lines-ended (wrong-start s f e) = lines-refused t bodies 8 _ refl (λ z. omega arith) (judged-start s f ∙ rw e refl)
+  lines-ended (passes s f e) =
+      let z : text-refusal t ≡ refused 0 0 = judged-start s f ∙ rw e refl in
+      record {
+        number = sym (ap (λ (r : Refusal). r .number) z);
+        line = sym (ap (λ (r : Refusal). r .line) z);
+        nothing = λ h. absurd (h refl);
+        model = λ _. d .model;
+        bodies = λ _. d .stored;
+      }
 
 -- ---- the whole reading
 module _ (t : List ℕ) {after : List ℕ} {r : Outcome} (e : LinesRead t after r) where

@@ -1,27 +1,26 @@
 -- The refusal of what is left of a text, from the frames read so far, one line further.
 -- The line at a place is refused, or its frame is, or the frame comes behind the others.
-use Prim.Native.Nat.{ℕ, zero, suc, _+_, _-_, _/_, _%_, _≤_, _<_, min}
+use Prim.Native.Nat.{ℕ, zero, suc, _+_, _-_, _/_, _%_, _≤_, _<_}
 use native.Mathlib.Omega.{arith}
 use mathlib.Core.Path.{_≡_, refl, sym, ap, _∙_}
-use mathlib.Core.Bool.{Bool, true, false, cond, _&&_}
-use mathlib.Core.List.{List, [], _∷_, _++_, append-nil}
+use mathlib.Core.Bool.{true, false, cond, _&&_}
+use mathlib.Core.List.{List, [], _∷_, _++_}
 use lib.Dec.{eqb, leb}
 use lib.ListN.{length, getD, take, drop, length-drop}
 use lib.Seq.{length-take-le}
-use borrow.Author.Tests.{eq-eqb, ne-eqb, eqb-true, eqb-false, le-leb, lt-leb, leb-true}
+use borrow.Author.Tests.{eq-eqb, ne-eqb, eqb-true, le-leb, leb-true}
 use Rattle.digits.specs.Digits.{bytes-of, padded}
 use Rattle.digits.proofs.Pairs.{length-bytes}
 use Rattle.digits.proofs.Filled.{padded-first}
 use Rattle.frames.specs.declared.FrameAt.{FrameAt}
 use Rattle.frames.specs.Lines.{Line, lines-of, all-digits, is-valid-line, line-refusal, place-of, line-place}
 use Rattle.frames.specs.Frames.{Frame, Frames, stopped, with-frame, frames-from, frames}
-use Rattle.frames.specs.FrameAt.{first-length, line-at, end-at, refused-at, frame-at}
+use Rattle.frames.specs.FrameAt.{first-length, line-at, end-at, frame-at}
 use Rattle.frames.proofs.At.{first-length-most}
 use Rattle.frames.proofs.Turns.{lines-at, lines-past}
-use Rattle.reading.specs.Models.{equations-in, starts-in, is-none}
-use Rattle.reading.specs.Reading.{Refusal, refused, frame-refusal, finished, frames-judged, text-refusal}
-use Rattle.reading.proofs.Refusals.{&&-left, &&-right}
-use Rattle.reading.proofs.Drafts.{frame-of}
+use Rattle.reading.specs.Reading.{Refusal, refused, finished, frames-judged}
+use Rattle.reading.proofs.Refusals.{cases, &&-left, &&-right, passed}
+use Rattle.reading.proofs.Drafts.{frame-of, refusal-after}
 
 -- the refusal of some frames, after those that are done
 abbrev pub judged : List Frame → Frames → Refusal
@@ -32,40 +31,24 @@ abbrev pub frames-at : List ℕ → ℕ → ℕ → Frames
 frames-at t i p = frames-from i (lines-of (drop p t))
 
 -- ---- the line at a place
-refusal-is : (b : Bool) (n : ℕ) (x y : FrameAt) → eqb n 0 ≡ b → x .number ≡ 0 → y .number ≡ n → cond b x y .number ≡ n
-refusal-is true n x y e p q = p ∙ sym (eqb-true n 0 e)
-refusal-is false n x y e p q = q
-
--- a line that is not refused has at most 512 characters
+-- one that is not refused has at most 512 characters
 valid-size : (l : Line) → line-refusal l ≡ 0 → length (l .characters) ≤ 512
 unfolding line-refusal
-valid-size l = by (all-digits (l .characters)) (is-valid-line l) refl
-  where
-    by : (d v : Bool) → is-valid-line l ≡ v → _≡_ {A = ℕ} (cond d (cond v 0 3) 2) 0 → length (l .characters) ≤ 512
-    by true true e h =
-        let n = length (l .characters) in
-        leb-true n 512 (&&-left (leb n 512) (eqb (n % 2) 0) (&&-right (l .ended && leb 1 n) (leb n 512 && eqb (n % 2) 0) e))
-    by true false e h = absurd (omega arith)
-    by false v e h = absurd (omega arith)
+valid-size l e =
+    let n = length (l .characters) in
+    let digits = passed (λ n. n) (all-digits (l .characters)) e (omega arith) in
+    let valid = passed (λ n. n) (is-valid-line l) (digits .1) (omega arith) .0 in
+    leb-true n 512 (&&-left (leb n 512) (eqb (n % 2) 0) (&&-right (l .ended && leb 1 n) (leb n 512 && eqb (n % 2) 0) valid))
 
 module _ (t : List ℕ) (at : ℕ) {f : FrameAt} (e : f ≡ frame-at t at) where
   pub number-is : f .number ≡ line-refusal (line-at t at)
   unfolding frame-at
-  number-is = ap (λ (f : FrameAt). f .number) e ∙ refusal-is _ _ _ _ refl refl refl
+  number-is = ap (λ (f : FrameAt). f .number) e ∙ cases (eqb (line-refusal (line-at t at)) 0)
+      (λ z. rw z (sym (eqb-true _ 0 z))) (λ z. rw z refl)
 
   pub end-is : f .end ≡ end-at t at
   unfolding frame-at
-  end-is = ap (λ (f : FrameAt). f .end) e ∙ same (eqb (line-refusal (line-at t at)) 0)
-    where
-      same : (b : Bool) → cond b (record {
-        number = 0;
-        end = end-at t at;
-        size = length (line-at t at .characters) / 2;
-        bytes = padded (bytes-of (line-at t at .characters));
-      }) (refused-at (line-refusal (line-at t at)) (end-at t at)) .end
-          ≡ end-at t at
-      same true = refl
-      same false = refl
+  end-is = ap (λ (f : FrameAt). f .end) e ∙ cases (eqb (line-refusal (line-at t at)) 0) (λ z. rw z refl) (λ z. rw z refl)
 
   pub end-near : at < length t → (at ≤ f .end) × (f .end ≤ length t)
   end-near h =
@@ -78,8 +61,7 @@ module _ (t : List ℕ) (at : ℕ) {f : FrameAt} (e : f ≡ frame-at t at) where
       number = 0;
       end = end-at t at;
       size = length (line-at t at .characters) / 2;
-      bytes = padded
-          (bytes-of (line-at t at .characters));
+      bytes = padded (bytes-of (line-at t at .characters));
     }
     unfolding frame-at
     is-frame = e ∙ rw (sym number-is ∙ z) refl
@@ -116,7 +98,7 @@ module _ (t : List ℕ) (done : List Frame) (line at : ℕ) (h : at < length t) 
     bytes = take (f .size) (f .bytes)
 
     abbrev number : ℕ
-    number = frame-refusal (length (equations-in done)) (is-none (starts-in done)) bytes
+    number = refusal-after done bytes
 
     pub framed : frames-at t line at ≡ with-frame line bytes (frames-at t (line + 1) (f .end + 1))
     framed =
@@ -133,26 +115,19 @@ module _ (t : List ℕ) (done : List Frame) (line at : ℕ) (h : at < length t) 
     frame-goes x = ap (judged done) framed ∙ rw (eq-eqb number 0 x) refl
 
 -- at the end
-pub all-done : (t : List ℕ) (done : List Frame) (line at : ℕ) → length t ≤ at → done ++ frames-at t line at .all ≡ done
+pub frames-end : (t : List ℕ) (line at : ℕ) → length t ≤ at → frames-at t line at ≡ stopped 0 line
 unfolding frames-from
-all-done t done line at h = ap (λ (ls : List Line). done ++ frames-from line ls .all) (lines-past t at h) ∙ append-nil done
+frames-end t line at h = ap (frames-from line) (lines-past t at h)
 
 pub lines-end : (t : List ℕ) (done : List Frame) (line at : ℕ) → length t ≤ at
     → judged done (frames-at t line at) ≡ finished done line
-unfolding frames-judged frames-from
-lines-end t done line at h = ap (λ (ls : List Line). judged done (frames-from line ls)) (lines-past t at h) ∙ refl
+unfolding frames-judged
+lines-end t done line at h = ap (judged done) (frames-end t line at h)
 
-pub too-long : (t : List ℕ) → 32768 < length t → text-refusal t ≡ refused 1 0
-unfolding text-refusal frames frames-judged
-too-long t h = rw (lt-leb (length t) 32768 h) refl
-
-pub begins : (t : List ℕ) → length t ≤ 32768 → text-refusal t ≡ judged [] (frames-at t 1 0)
-unfolding text-refusal frames
-begins t h = rw (le-leb (length t) 32768 h) refl
-
-pub begins-all : (t : List ℕ) → length t ≤ 32768 → frames t .all ≡ frames-at t 1 0 .all
+-- at the start
+pub frames-begin : (t : List ℕ) → length t ≤ 32768 → frames t ≡ frames-at t 1 0
 unfolding frames
-begins-all t h = rw (le-leb (length t) 32768 h) refl
+frames-begin t h = rw (le-leb (length t) 32768 h) refl
 
 -- ---- where lines begin
 place-next : (i : ℕ) (ls : List Line) {l : Line} {rest : List Line} → drop i ls ≡ l ∷ rest

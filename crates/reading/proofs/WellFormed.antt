@@ -2,26 +2,26 @@
 -- Frame by frame: what each refusal leaves is kept, `Kept`; then what 7 and 8 leave.
 use Prim.Native.Nat.{ℕ, zero, suc, _+_, _≤_, _<_}
 use native.Mathlib.Omega.{arith}
-use mathlib.Core.Path.{_≡_, refl, sym, ap, subst, _∙_}
-use mathlib.Core.Bool.{Bool, true, false, cond, _&&_}
+use mathlib.Core.Path.{_≡_, refl}
+use mathlib.Core.Bool.{true, false, _&&_}
 use mathlib.Core.List.{List, [], _∷_, _++_, map, append-assoc, append-nil}
 use lib.Dec.{eqb, leb}
-use lib.ListN.{length, getD, take, length-map, length-take}
+use lib.ListN.{length, getD, take, length-map}
 use lib.Seq.{length-take-le}
 use borrow.Author.Tests.{le-leb, leb-true, eqb-true, eqb-false}
-use Rattle.meaning.specs.Logic.{_and_, Is, is, and-i, and-l, and-r, eq→Is}
+use Rattle.meaning.specs.Logic.{Is, is, and-i, and-l, and-r, eq→Is}
 use Rattle.meaning.specs.Ranges.{is-range, all-ranges, typed, signatures, well-formed-equation, well-formed-equations}
 use Rattle.meaning.specs.Ranges.{well-formed}
 use Rattle.frames.specs.Lines.{line-place}
 use Rattle.frames.specs.Frames.{Frame, frames}
-use Rattle.formulas.specs.Bodies.{formula-of, is-fitting}
+use Rattle.formulas.specs.Bodies.{is-fitting}
 use Rattle.formulas.proofs.Decoded.{body-sound}
-use Rattle.reading.specs.Equations.{four-ranges, ranges-in, body-in, is-valid-head, equation-of, start-of}
-use Rattle.reading.specs.Models.{frames-with, equations-in, starts-in, is-none, first-of, model-of, start-in}
-use Rattle.reading.specs.Reading.{Refusal, refused, instances-judged, start-judged, finished, frames-judged, text-refusal}
-use Rattle.reading.specs.Records.{model-record, kept, bodies-over, reading}
-use Rattle.reading.proofs.Refusals.{&&-left, &&-right}
-use Rattle.reading.proofs.Drafts.{EquationSound, Sound, Kept, Drafted, Goes, goes, refusal-after, kept-none, kept-more}
+use Rattle.reading.specs.Equations.{four-ranges, ranges-in, body-in, is-valid-head, equation-of}
+use Rattle.reading.specs.Models.{equations-in, starts-in, is-none, model-of, start-in}
+use Rattle.reading.specs.Reading.{Refusal, instances-judged, start-judged, finished, frames-judged, text-refusal}
+use Rattle.reading.specs.Records.{kept, reading}
+use Rattle.reading.proofs.Refusals.{cases, &&-left, &&-right, passed}
+use Rattle.reading.proofs.Drafts.{EquationSound, Kept, Drafted, goes, refusal-after, kept-none, kept-more}
 use Rattle.reading.proofs.Drafts.{no-frame}
 
 -- what 7 and 8 leave beside
@@ -33,9 +33,8 @@ pub record Passed (fs : List Frame) : Type 0 where
   pub starts : typed (signatures (model-of fs)) (start-in fs) ≡ true
 
 -- ---- where nothing is refused, each test holds
-passed : (b : Bool) (n i : ℕ) (r : Refusal) → 0 < n → cond b r (refused n i) .number ≡ 0 → (b ≡ true) × (r .number ≡ 0)
-passed true n i r h e = (refl, e)
-passed false n i r h e = absurd (omega arith)
+abbrev number-of : Refusal → ℕ
+number-of r = r .number
 
 instances-passed : (sigs : List (List ℕ)) (es : List Frame) (others : Refusal) → instances-judged sigs es others .number ≡ 0
     → ((j : ℕ) → j < length es → let f = getD es j no-frame .bytes in is-fitting sigs (body-in f) (ranges-in f) ≡ true)
@@ -43,39 +42,29 @@ instances-passed : (sigs : List (List ℕ)) (es : List Frame) (others : Refusal)
 unfolding instances-judged
 instances-passed sigs [] others e = ((λ j h. absurd (omega arith)), e)
 instances-passed sigs (f ∷ es) others e =
-    let here = passed _ 7 _ _ (omega arith) e in
+    let here = passed number-of (is-fitting sigs (body-in (f .bytes)) (ranges-in (f .bytes))) e (omega arith) in
     let more = instances-passed sigs es others (here .1) in
     ((λ j. elim j [ zero ↦ λ h. here .0 | suc j ↦ λ h. more .0 j (omega arith) ]), more .1)
 
 finished-passed : (fs : List Frame) (i : ℕ) → Kept fs → finished fs i .number ≡ 0 → Passed fs
 unfolding finished start-judged
-finished-passed fs i k = begun (is-none (starts-in fs)) refl
+finished-passed fs i k e = cases (is-none (starts-in fs)) (λ b. absurd (omega (arith, rw b at e))) begun
   where
-    begun : (b : Bool) → is-none (starts-in fs) ≡ b
-        → cond b (refused 4 i) (instances-judged (signatures (model-of fs)) (equations-in fs)
-        (start-judged (signatures (model-of fs)) (first-of (starts-in fs)))) .number ≡ 0 → Passed fs
-    begun true b e = absurd (omega arith)
-    begun false b e =
-        let seven = instances-passed (signatures (model-of fs)) (equations-in fs) _ e in
-        record { frames-kept = k; started = b; fit = seven .0; starts = passed _ 8 _ (refused 0 0) (omega arith) (seven .1) .0 }
+    begun : is-none (starts-in fs) ≡ false → Passed fs
+    begun b =
+        let seven = instances-passed (signatures (model-of fs)) (equations-in fs) _ (rw b at e) in
+        let eight = passed number-of (typed (signatures (model-of fs)) (start-in fs)) (seven .1) (omega arith) in
+        record { frames-kept = k; started = b; fit = seven .0; starts = eight .0 }
 
 frames-passed : (done fs : List Frame) (end : Refusal) → Kept done → frames-judged done fs end .number ≡ 0 → Passed (done ++ fs)
 unfolding frames-judged
-frames-passed done [] end k = by (eqb (end .number) 0) refl
-  where
-    by : (b : Bool) → eqb (end .number) 0 ≡ b → cond b (finished done (end .line)) end .number ≡ 0 → Passed (done ++ [])
-    by true b e = subst Passed (sym (append-nil done)) (finished-passed done (end .line) k e)
-    by false b e = absurd (eqb-false (end .number) 0 b e)
-frames-passed done (f ∷ fs) end k =
-    by (eqb (refusal-after done (f .bytes)) 0) refl (λ g. frames-passed (done ++ (f ∷ [])) fs end (kept-more (goes done f g) k))
-  where
-    by : (b : Bool) → eqb (refusal-after done (f .bytes)) 0 ≡ b
-        → (refusal-after done (f .bytes) ≡ 0 → frames-judged (done ++ (f ∷ [])) fs end .number ≡ 0
-        → Passed ((done ++ (f ∷ [])) ++ fs))
-        → cond b (frames-judged (done ++ (f ∷ [])) fs end) (refused (refusal-after done (f .bytes)) (f .line)) .number ≡ 0
-        → Passed (done ++ (f ∷ fs))
-    by true b g e = subst Passed (append-assoc done (f ∷ []) fs) (g (eqb-true _ 0 b) e)
-    by false b g e = absurd (eqb-false _ 0 b e)
+frames-passed done [] end k e = cases (eqb (end .number) 0)
+    (λ b. rw (append-nil done) (finished-passed done (end .line) k (rw b at e)))
+    (λ b. absurd (eqb-false (end .number) 0 b (rw b at e)))
+frames-passed done (f ∷ fs) end k e = cases (eqb (refusal-after done (f .bytes)) 0)
+    (λ b. rw (append-assoc done (f ∷ []) fs) at
+    (frames-passed (done ++ (f ∷ [])) fs end (kept-more (goes done f (eqb-true _ 0 b)) k) (rw b at e)))
+    (λ b. absurd (eqb-false _ 0 b (rw b at e)))
 
 pub text-passed : (t : List ℕ) → text-refusal t .number ≡ 0 → Passed (frames t .all)
 unfolding text-refusal
@@ -139,8 +128,8 @@ reading-well-formed t h =
 -- ---- the structs of every reading hold the frames that are kept
 pub reading-drafted : (t : List ℕ) → Drafted (line-place t) (kept t) (reading t .model) (reading t .bodies)
 unfolding reading
-reading-drafted t = record { model = refl; stored = refl; kept = by (eqb (text-refusal t .number) 0) refl }
-  where
-    by : (b : Bool) → eqb (text-refusal t .number) 0 ≡ b → Kept (cond b (frames t .all) [])
-    by true e = text-passed t (eqb-true _ 0 e) .frames-kept
-    by false e = kept-none
+reading-drafted t = record {
+  model = refl;
+  stored = refl;
+  kept = cases (eqb (text-refusal t .number) 0) (λ e. rw e (text-passed t (eqb-true _ 0 e) .frames-kept)) (λ e. rw e kept-none);
+}

@@ -1,6 +1,5 @@
 -- `reading::read_model` meets its contract.
 -- The lines give the refusal or the model, and the bodies.
-use mathlib.Core.Path.{refl}
 use Rattle.reading.proofs.Finishing.{reading-refused, reading-read}
 use borrow.Author.Needs.{needs}
 use Rattle.reading.proofs.read_model.Statement.{statement}
@@ -12,5 +11,5 @@ read-model-spec =
     (tie.spec
     (λ c. search needs)
     (λ c κs. search needs)
-    (λ c. reading-refused _ (c .before .before .before .read-lines .ensures) (c .if1 .taken))
-    (λ c. reading-read _ (c .before .before .before .read-lines .ensures) (c .if1 .left)))
+    (λ c. reading-refused _ (c .before .before .before .before .read-lines .ensures) (c .if1 .taken))
+    (λ c. reading-read _ (c .before .before .before .before .read-lines .ensures) (c .if1 .left)))

@@ -1,13 +1,8 @@
 -- `reading::stop` meets its contract.
 -- The model is that of no frame.
-use mathlib.Core.Path.{refl}
-use Rattle.reading.specs.Contract.{stopped}
 use borrow.Author.Needs.{needs}
 use Rattle.reading.proofs.stop.Statement.{statement}
 use Rattle.reading.proofs.stop.Tie as tie
 
-returns : tie.Need-returns
-returns c = rw (c .no-model .ensures (λ i. 0)) refl
-
 pub stop-spec : {M : Type 1} → statement M
-stop-spec = tie.close (tie.spec (λ c κs. search needs) returns)
+stop-spec = tie.close (tie.spec (λ c κs. search needs) (λ c. rw (c .no-model .ensures (λ i. 0))))
