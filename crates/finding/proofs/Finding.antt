@@ -1,7 +1,7 @@
 -- Finding: the words found are a stage of the search, until nothing is left to take or there is no room.
 -- Taking an instance adds the words that are fresh in its right side, so the table has the next stage, as far as there
 -- is room.
-use Prim.Native.Nat.{ℕ, _+_, _*_, _≤_, _<_, min}
+use Prim.Native.Nat.{ℕ, _+_, _≤_, _<_, min}
 use native.Mathlib.Omega.{arith}
 use mathlib.Core.Path.{_≡_, refl, sym, ap, ap₂, subst, _∙_}
 use mathlib.Core.Bool.{Bool, true, false, false≢true}
@@ -28,7 +28,7 @@ use Rattle.formulas.specs.Bodies.{blank}
 use Rattle.formulas.specs.Decode.{formula-at}
 use Rattle.formulas.specs.Tuples.{items}
 use Rattle.words.specs.Unpacked.{equation-number, argument-tuple, argument-count, argument-items}
-use Rattle.instances.specs.Decoded.{equation-at, body-in}
+use Rattle.instances.specs.Decoded.{equation-at, body-part, body-in}
 use Rattle.instances.specs.Sides.{parsed-in, OneFormula}
 use Rattle.instances.specs.Models.{model-in}
 use Rattle.instances.proofs.Models.{body-there, typed-below, word-number, word-names}
@@ -64,7 +64,7 @@ module _ (bodies : List ℕ) (equations : List Equation) (w : ℕ) {e : ℕ} (is
 
   -- it is gathered from its body's first byte on
   pub side-gathers : {next n r : ℕ} {body : List ℕ} {scope : Tuple} {t t′ : List ℕ}
-      → body ≡ take (equation-at equations e .length) (drop (equation-number w * 256) bodies)
+      → body ≡ body-part bodies (equation-number w) (equation-at equations e .length)
       → scope ≡ argument-tuple w (equation-at equations e .k)
       → GathersLeft (apart 0) (items scope) body (scope .count) 0 t t′ n r next
       → SideGathers bodies equations w (length t) t t′ n r

@@ -9,7 +9,7 @@ use mathlib.Core.List.{List, [], _∷_}
 use lib.Dec.{ltb, leb}
 use lib.ListN.{length, getD}
 use borrow.Author.Tests.{eqb-true, leb-true}
-use Rattle.meaning.specs.Logic.{_and_, Is, is, and-i, eq→Is}
+use Rattle.meaning.specs.Logic.{Is, is, and-i, eq→Is}
 use Rattle.meaning.specs.Formulas.{Term, number, Formula, constant}
 use Rattle.meaning.specs.Ranges.{is-range, sound-term, sound-terms, sound}
 use Rattle.formulas.specs.declared.Kind.{Kind}

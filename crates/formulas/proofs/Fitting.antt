@@ -9,7 +9,7 @@ use mathlib.Core.List.{List, [], _∷_}
 use lib.Dec.{eqb, ltb, leb}
 use lib.ListN.{length, getD}
 use borrow.Author.Tests.{eqb-true, eqb-false, ltb-true}
-use Rattle.meaning.specs.Logic.{_and_}
+use Rattle.meaning.specs.Logic.{_and_, and-false}
 use Rattle.meaning.specs.Formulas.{Term, instance}
 use Rattle.meaning.specs.Ranges.{term-range, arguments-fit, fits}
 use Rattle.formulas.specs.Contract.{part, signature-in, signatures-in}
@@ -45,11 +45,6 @@ module _ (before : Bool) (table : List ℕ) (j : ℕ) (rs : List ℕ) {c : ℕ} 
       rw more (r ∙ rw (f, x) (next-fits before _ _))
 
 -- ---- as many as parameters, and of an equation that there is
-and-false : (b : Bool) → b and false ≡ false
-unfolding _and_
-and-false true = refl
-and-false false = refl
-
 wrong-number : (ts : List Term) (ps rs : List ℕ) → length ts ≢ length ps → arguments-fit ts ps rs ≡ false
 unfolding arguments-fit
 wrong-number [] [] rs h = absurd (h refl)

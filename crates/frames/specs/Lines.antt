@@ -28,7 +28,7 @@ lines-of (c ∷ s) = in-front c (lines-of s)
 
 unfoldable pub all-digits : List ℕ → Bool
 all-digits [] = true
-all-digits (c ∷ s) = cond (is-digit c) (all-digits s) false
+all-digits (c ∷ s) = is-digit c && all-digits s
 
 -- 3: not "line empty, an odd number of digits, over 512 digits, or no 0a at its end"
 abbrev pub is-valid-size : ℕ → Bool → Bool

@@ -4,13 +4,13 @@ use Prim.Native.Nat.{ℕ, zero, suc, _+_, _*_, _/_, _%_, _≤_, _<_}
 use native.Mathlib.Omega.{arith}
 use native.Mathlib.Decide.{ℕ-discrete}
 use mathlib.Core.Path.{_≡_, refl, sym, ap, ap₂, _∙_}
-use mathlib.Core.Bool.{Bool, true, false, cond, false≢true, _&&_}
+use mathlib.Core.Bool.{Bool, true, false, cond, _&&_, and-eq-true-iff}
 use mathlib.Core.List.{List, [], _∷_, _++_, map}
 use lib.Dec.{eqb, leb}
 use lib.ListN.{length, getD, set, length-set}
 use lib.Seq.{append-snoc, getD-set-same, getD-set-other}
 use borrow.Author.Tests.{eq-eqb, eqb-true, eqb-false, le-leb, leb-true}
-use Rattle.digits.specs.Digits.{bytes-of, characters}
+use Rattle.digits.specs.Digits.{is-digit, bytes-of, characters}
 use Rattle.digits.proofs.Pairs.{length-bytes, bytes-small}
 use Rattle.digits.proofs.Written.{digit-is-digit, bytes-read, pair-written, length-characters}
 use Rattle.frames.specs.Lines.{Line, before, lines-of, all-digits, line-refusal}
@@ -129,18 +129,14 @@ right l z =
       even = eqb-true _ _ (p .4);
     }
 
-both : (a b : Bool) → cond a b false ≡ true → (a ≡ true) × (b ≡ true)
-both true b e = (refl, e)
-both false b e = absurd (false≢true e)
-
 -- small letters only are digits, so the characters are as they were
 pub characters-read : (s : List ℕ) → all-digits s ≡ true → length s % 2 ≡ 0 → characters (bytes-of s) ≡ s
 unfolding all-digits characters bytes-of
 characters-read [] d e = refl
 characters-read (c ∷ []) d e = absurd (omega arith)
 characters-read (c ∷ c′ ∷ s) d e =
-    let p = both _ _ d in
-    let q = both _ _ (p .1) in
+    let p = and-eq-true-iff (is-digit c) (all-digits (c′ ∷ s)) .0 d in
+    let q = and-eq-true-iff (is-digit c′) (all-digits s) .0 (p .1) in
     ap₂ (λ (x y : List ℕ). x ++ y) (pair-written c c′ (p .0) (q .0)) (characters-read s (q .1) (omega arith))
 
 right-writable : {l : Line} → Right l → Writable (bytes-of (l .characters))

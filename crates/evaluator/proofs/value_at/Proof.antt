@@ -1,6 +1,6 @@
 -- `evaluator::value_at` meets its contract: what the inner function tells is the reply.
 -- Where more than four variables in reach would be parameters, nothing is read.
-use Prim.Native.Nat.{_+_, _≤_, _<_}
+use Prim.Native.Nat.{_+_, _≤_}
 use native.Mathlib.Omega.{arith}
 use borrow.Author.Needs.{needs}
 use borrow.Author.Tests.{le-leb, lt-leb}

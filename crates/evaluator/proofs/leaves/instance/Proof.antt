@@ -1,6 +1,5 @@
 -- `evaluator::instance` meets its contract: the value of an instance is that of its word.
 -- What is told of the word is told of the value.
-use Prim.Native.Nat.{ℕ}
 use mathlib.Core.Path.{ap, _∙_}
 use borrow.Author.Needs.{needs}
 use Rattle.formulas.proofs.ByKind.{instance-map}

@@ -1,7 +1,6 @@
 -- `evaluator::word_at` meets its contract: an equation, a number of arguments, and these.
 -- Where more than four are announced, or one can't be read, there is no instance.
 use Prim.Native.Nat.{ℕ, _≤_}
-use native.Mathlib.Omega.{arith}
 use mathlib.Core.Path.{_≡_, refl, ap, _∙_}
 use mathlib.Core.Bool.{Bool, true, false}
 use mathlib.Core.List.{List, _∷_}

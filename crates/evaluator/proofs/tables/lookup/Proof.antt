@@ -1,6 +1,5 @@
 -- `evaluator::tables::lookup` meets its contract: the search ends at the first match, or at the end.
 -- Until then what is left to look through says how far past i the word stands.
-use borrow.Author.Needs.{needs}
 use borrow.Author.Tests.{eq-eqb, ne-eqb}
 use native.Mathlib.Omega.{arith}
 use native.Mathlib.Numerals.{add-one}

@@ -1,6 +1,5 @@
 -- `evaluator::terms::calculate` meets its contract, where the range is not 0: a sum of two bytes is made in a wider number.
 -- A difference that would be below 0 is 0, whose remainder is 0.
-use mathlib.Core.Bool.{true, false}
 use native.Mathlib.Omega.{arith}
 use native.Mathlib.Nat.{mod-lt, zero-mod}
 use Prim.Native.Nat.{_+_, _-_}
