@@ -11,6 +11,7 @@ use borrow.Author.Tests.{lt-ltb, le-ltb, le-leb, lt-leb, leb-true, leb-false}
 use Rattle.meaning.specs.Formulas.{Term, number, variable, calculated}
 use Rattle.meaning.specs.Formulas.{Formula, constant, joined, quantified, compared, instance}
 use Rattle.meaning.specs.Ranges.{is-range}
+use Rattle.meaning.specs.Logic.{cases}
 use Rattle.formulas.specs.declared.Kind.{Kind}
 use Rattle.formulas.specs.declared.Kind.the-variants.{NoFormula, Constant, Join, Quantifier, Compare, Instance}
 use Rattle.formulas.specs.declared.TermKind.{TermKind}
@@ -183,11 +184,10 @@ no-formula s k q at h (suc n) = rw (shape-no-formula n s k q at h) refused
 
 late : {P : Formula → Type 0} (s : List ℕ) (k q at : ℕ) {limit e : ℕ} → limit ≤ at → (n : ℕ)
     → ToldWithin limit (length s) P e (formula-at n s k q at) false
-late {P} s k q at {limit} {e} h n = of-place (leb (length s) at) refl
-  where
-    of-place : (b : Bool) → leb (length s) at ≡ b → ToldWithin limit (length s) P e (formula-at n s k q at) false
-    of-place true l = within (no-formula s k q at (rw (List·getD-eq-default s 0 {n = at} (leb-true (length s) at l)) no-kind) n)
-    of-place false l = told-past (omega (arith, leb-false (length s) at l)) (omega arith) (every-formula s n k q at)
+late s k q at h n =
+    cases (leb (length s) at)
+    (λ l. within (no-formula s k q at (rw (List·getD-eq-default s 0 {n = at} (leb-true (length s) at l)) no-kind) n))
+    (λ l. told-past (omega (arith, leb-false (length s) at l)) (omega arith) (every-formula s n k q at))
 
 pub formula-late : {P : Formula → Type 0} {s : List ℕ} {limit k q at e : ℕ} → limit ≤ at → FormulaTold P s limit k q at false e
 formula-late {s} {k} {q} {at} h = record { tells = λ n _. late s k q at h n }

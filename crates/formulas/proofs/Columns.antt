@@ -8,6 +8,7 @@ use mathlib.Core.List.{List, [], _∷_}
 use lib.Dec.{leb}
 use lib.ListN.{length, getD, List·getD-eq-default}
 use borrow.Author.Tests.{leb-true, leb-false}
+use Rattle.meaning.specs.Logic.{cases}
 use Rattle.formulas.specs.declared.Kind.the-variants.{NoFormula}
 use Rattle.formulas.specs.declared.TermKind.the-variants.{NoTerm}
 use Rattle.formulas.specs.Codes.{Row, row, no-row, rows, row-of, kind-of, term-kind-of, operands-of}
@@ -66,17 +67,13 @@ module _ (code : ℕ) where
 -- the number of no kind
 pub no-formula : (n : ℕ) → (n ≤ 11 → n ≤ 5) → (n ≤ 5 → n ≡ 0) → NoFormula ≡ kind-numbered n
 unfolding kind-numbered
-no-formula n f g = of-number (leb n 11) refl
-  where
-    of-number : (b : Bool) → leb n 11 ≡ b → NoFormula ≡ kind-numbered n
-    of-number true h = rw (g (f (leb-true n 11 h))) refl
-    of-number false h = sym (List·getD-eq-default numbered-kinds NoFormula {n = n} (leb-false n 11 h))
+no-formula n f g =
+    cases (leb n 11) (λ h. rw (g (f (leb-true n 11 h))) refl)
+    (λ h. sym (List·getD-eq-default numbered-kinds NoFormula {n = n} (leb-false n 11 h)))
 
 pub no-term : (n : ℕ) → (12 ≤ n → 15 < n) → NoTerm ≡ term-kind-numbered n
 unfolding term-kind-numbered
-no-term n f = of-number (leb 12 n) refl
-  where
-    of-number : (b : Bool) → leb 12 n ≡ b → NoTerm ≡ term-kind-numbered n
-    of-number true h =
-        sym (List·getD-eq-default numbered-term-kinds NoTerm {n = n - 11} (omega (arith, f (leb-true 12 n h))))
-    of-number false h = let z : n - 11 ≡ 0 = omega (arith, leb-false 12 n h) in rw z refl
+no-term n f =
+    cases (leb 12 n)
+    (λ h. sym (List·getD-eq-default numbered-term-kinds NoTerm {n = n - 11} (omega (arith, f (leb-true 12 n h)))))
+    (λ h. let z : n - 11 ≡ 0 = omega (arith, leb-false 12 n h) in rw z refl)

@@ -11,6 +11,7 @@ use lib.ListN.{length, getD, take, drop, set, replicate, length-append, length-m
 use lib.Seq.{sets, set-at, take-set-le, drop-set-add, drop-at, length-take-le, take-append-seam, length-sets, sets-eq}
 use lib.Seq.{getD-append-add}
 use borrow.Author.Tests.{eqb-true, eq-eqb, ltb-true, leb-true}
+use Rattle.meaning.specs.Logic.{cases}
 use Rattle.frames.specs.Frames.{Frame}
 use Rattle.formulas.specs.declared.Equation.{Equation}
 use Rattle.formulas.specs.Bodies.{is-body}
@@ -20,7 +21,7 @@ use Rattle.reading.specs.Equations.{ranges-in, body-in, is-valid-head}
 use Rattle.reading.specs.Models.{code-of, frames-with, equations-in, starts-in, is-none, first-of}
 use Rattle.reading.specs.Reading.{equation-refusal, start-refusal, frame-refusal}
 use Rattle.reading.specs.Records.{equation-record, start-record, no-equation, eight, model-record, bodies-over, bodies-of}
-use Rattle.reading.proofs.Refusals.{cases, &&-left, &&-right, passed}
+use Rattle.reading.proofs.Refusals.{&&-left, &&-right, passed}
 
 -- ---- what 5 and 6 leave of an equation's frame
 pub record EquationSound (f : List ℕ) : Type 0 where

@@ -10,7 +10,7 @@ use lib.ListN.{length, getD, take, drop, replicate, length-drop, length-map, len
 use lib.ListN.{drop-of-length-le}
 use lib.Seq.{take-at, drop-cons}
 use borrow.Author.Tests.{leb-true, leb-false, eq-eqb, ne-eqb}
-use Rattle.meaning.specs.Logic.{_and_, and-false}
+use Rattle.meaning.specs.Logic.{_and_, and-false, cases}
 use Rattle.meaning.specs.Ranges.{signatures, typed}
 use Rattle.meaning.specs.WordLaws.{four-of, first-of-four}
 use Rattle.frames.specs.Lines.{line-place}
@@ -26,7 +26,6 @@ use Rattle.reading.specs.Equations.{four-ranges, ranges-in, body-in, equ
 use Rattle.reading.specs.Models.{frames-with, equations-in, starts-in, is-none, first-of, model-of}
 use Rattle.reading.specs.Reading.{Refusal, refused, instances-judged, start-judged, finished, text-refusal}
 use Rattle.reading.specs.Records.{equation-record, start-record, eight, model-record, bodies-over, reading}
-use Rattle.reading.proofs.Refusals.{cases}
 use Rattle.reading.proofs.Starts.{other-length}
 use Rattle.reading.proofs.Drafts.{Drafted, no-frame, count-is, unstarted-is, length-bodies, body-stored}
 

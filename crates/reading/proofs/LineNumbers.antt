@@ -9,6 +9,7 @@ use mathlib.Core.List.{List, [], _∷_, _++_}
 use lib.Dec.{eqb, ltb, leb, lit≤}
 use lib.ListN.{length, getD}
 use borrow.Author.Tests.{le-leb, lt-leb}
+use Rattle.meaning.specs.Logic.{cases}
 use Rattle.frames.specs.Lines.{Line, before, lines-of, all-digits, is-valid-line, line-refusal}
 use Rattle.frames.specs.Frames.{Frame, frames-from, frames}
 use Rattle.meaning.specs.Ranges.{signatures, typed}
@@ -17,7 +18,6 @@ use Rattle.reading.specs.Equations.{ranges-in, body-in, is-valid-head, s
 use Rattle.reading.specs.Models.{code-of, frames-with, equations-in, starts-in, is-none, first-of, model-of}
 use Rattle.reading.specs.Reading.{equation-refusal, start-refusal, frame-refusal, Refusal, refused, instances-judged}
 use Rattle.reading.specs.Reading.{start-judged, finished, frames-judged, text-refusal}
-use Rattle.reading.proofs.Refusals.{cases}
 
 -- ---- a text has no more lines than characters
 one-longer : (b : Bool) (c n : ℕ) (l : Line) (ls : List Line) → length ls ≤ n → length (cond b (l ∷ ls) (before c ls)) ≤ suc n

@@ -15,10 +15,6 @@ use Rattle.reading.specs.Equations.{ranges-in, body-in, is-valid-head}
 use Rattle.reading.specs.Reading.{equation-refusal}
 use Rattle.reading.specs.Records.{equation-record}
 
-pub cases : {X : Type 0} (b : Bool) → (b ≡ true → X) → (b ≡ false → X) → X
-cases true f g = f refl
-cases false f g = g refl
-
 pub &&-left : (a b : Bool) → a && b ≡ true → a ≡ true
 &&-left true b h = refl
 &&-left false b h = h

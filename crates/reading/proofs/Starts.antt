@@ -8,7 +8,7 @@ use mathlib.Core.List.{List, [], _∷_}
 use lib.Dec.{eqb, ltb, leb}
 use lib.ListN.{length, getD, take, length-take}
 use borrow.Author.Tests.{le-leb, leb-true, lt-ltb, le-ltb, eqb-true, eqb-false}
-use Rattle.meaning.specs.Logic.{_and_, eq→Is}
+use Rattle.meaning.specs.Logic.{_and_, eq→Is, cases}
 use Rattle.meaning.specs.Typed.{within-length}
 use Rattle.meaning.specs.Ranges.{is-range, all-ranges, within, typed}
 use Rattle.meaning.specs.WordLaws.{four-of, first-of-four}
@@ -16,7 +16,6 @@ use Rattle.formulas.specs.Bodies.{blank, ranges-of}
 use Rattle.formulas.proofs.Bodies.{take-most, signatures-length, signature-at}
 use Rattle.reading.specs.declared.Model.{Model}
 use Rattle.reading.specs.Contract.{is-start}
-use Rattle.reading.proofs.Refusals.{cases}
 
 four-tests : (p q r s : Bool) → p && (q && (r && s)) ≡ p and (q and (r and (s and true)))
 unfolding _and_
@@ -27,11 +26,11 @@ four-tests true true true false = refl
 four-tests true true true true = refl
 
 -- the test of argument i, where the equation has so many parameters
-abbrev asked : ℕ → List ℕ → List ℕ → ℕ → Bool
-asked n x rs i = cond (ltb i n) (ltb (getD x i 0) (getD rs i 0)) true
+abbrev fits-at : ℕ → List ℕ → List ℕ → ℕ → Bool
+fits-at n x rs i = cond (ltb i n) (ltb (getD x i 0) (getD rs i 0)) true
 
-abbrev asked-four : ℕ → List ℕ → List ℕ → Bool
-asked-four n x rs = asked n x rs 0 && (asked n x rs 1 && (asked n x rs 2 && asked n x rs 3))
+abbrev four-fit : ℕ → List ℕ → List ℕ → Bool
+four-fit n x rs = fits-at n x rs 0 && (fits-at n x rs 1 && (fits-at n x rs 2 && fits-at n x rs 3))
 
 all-four : (l : List ℕ) → length l ≡ 4 → four-of l ≡ l
 all-four l h = rw h at (first-of-four l (omega arith))
@@ -44,7 +43,7 @@ four-ranges l h =
     ap all-ranges (all-four l h)
 
 module _ (a b c d p q r s : ℕ) where
-  same-number : (n : ℕ) → n ≤ 4 → asked-four n (a ∷ b ∷ c ∷ d ∷ []) (p ∷ q ∷ r ∷ s ∷ []) ≡ within (take n (a ∷ b ∷ c ∷ d ∷ []))
+  same-number : (n : ℕ) → n ≤ 4 → four-fit n (a ∷ b ∷ c ∷ d ∷ []) (p ∷ q ∷ r ∷ s ∷ []) ≡ within (take n (a ∷ b ∷ c ∷ d ∷ []))
       (take n (p ∷ q ∷ r ∷ s ∷ []))
   unfolding within _and_
   same-number zero h = refl
@@ -59,10 +58,10 @@ other-length x rs h = cases (within x rs) (λ e. absurd (h (within-length x rs (
 
 -- n arguments, of which the first four are x, for k parameters, of which the first four have the ranges rs
 module _ (n k m : ℕ) (x rs : List ℕ) (hx : length x ≡ 4) (hr : length rs ≡ 4) (e : m ≡ min k 4) where
-  same : (i : ℕ) → i ≤ 4 → asked-four i x rs ≡ within (take i x) (take i rs)
+  same : (i : ℕ) → i ≤ 4 → four-fit i x rs ≡ within (take i x) (take i rs)
   same i h =
-      subst (λ (l : List ℕ). asked-four i l rs ≡ within (take i l) (take i rs)) (all-four x hx)
-      (subst (λ (l : List ℕ). asked-four i (four-of x) l ≡ within (take i (four-of x)) (take i l)) (all-four rs hr)
+      subst (λ (l : List ℕ). four-fit i l rs ≡ within (take i l) (take i rs)) (all-four x hx)
+      (subst (λ (l : List ℕ). four-fit i (four-of x) l ≡ within (take i (four-of x)) (take i l)) (all-four rs hr)
       (same-number (getD x 0 0) (getD x 1 0) (getD x 2 0) (getD x 3 0) (getD rs 0 0) (getD rs 1 0) (getD rs 2 0) (getD rs 3 0) i
       h))
 
@@ -70,7 +69,7 @@ module _ (n k m : ℕ) (x rs : List ℕ) (hx : length x ≡ 4) (hr : length rs �
   wrong-number h = cases (leb n 4) (λ l. rw l (other-length (take n x) (take k rs) (λ q. h
       (omega (arith, leb-true n 4 l, length-take n x, length-take k rs, q, hx, hr, e))))) (λ l. rw l refl)
 
-  judged : eqb n m && asked-four m x rs ≡ leb n 4 && within (take n x) (take k rs)
+  judged : eqb n m && four-fit m x rs ≡ leb n 4 && within (take n x) (take k rs)
   judged = cases (eqb n m)
       (λ h. rw (h, eqb-true n m h, le-leb m 4 (omega (arith, e)), ← take-most rs k 4 hr (leb k 4) refl, ← e)
       (same m (omega (arith, e))))
@@ -78,7 +77,7 @@ module _ (n k m : ℕ) (x rs : List ℕ) (hx : length x ≡ 4) (hr : length rs �
 
   -- the four tests, joined from the last on, and then with the test of their number
   pub arguments-judged : {b₀ b₁ b₂ b₃ b₂₃ b₁₂₃ all r : Bool} →
-      b₀ ≡ asked m x rs 0 → b₁ ≡ asked m x rs 1 → b₂ ≡ asked m x rs 2 → b₃ ≡ asked m x rs 3 →
+      b₀ ≡ fits-at m x rs 0 → b₁ ≡ fits-at m x rs 1 → b₂ ≡ fits-at m x rs 2 → b₃ ≡ fits-at m x rs 3 →
       b₂₃ ≡ b₂ && b₃ → b₁₂₃ ≡ b₁ && b₂₃ → all ≡ b₀ && b₁₂₃ → r ≡ eqb n m && all →
       r ≡ leb n 4 && within (take n x) (take k rs)
   arguments-judged e₀ e₁ e₂ e₃ e₂₃ e₁₂₃ e-all e = e ∙ rw (e-all, e₁₂₃, e₂₃, e₀, e₁, e₂, e₃) judged

@@ -9,6 +9,7 @@ use lib.Dec.{eqb, leb}
 use lib.ListN.{length, getD, take, drop, length-drop}
 use lib.Seq.{length-take-le}
 use borrow.Author.Tests.{eq-eqb, ne-eqb, eqb-true, le-leb, leb-true}
+use Rattle.meaning.specs.Logic.{cases}
 use Rattle.digits.specs.Digits.{bytes-of, padded}
 use Rattle.digits.proofs.Pairs.{length-bytes}
 use Rattle.digits.proofs.Filled.{padded-first}
@@ -19,7 +20,7 @@ use Rattle.frames.specs.FrameAt.{first-length, line-at, end-at, frame-at}
 use Rattle.frames.proofs.At.{first-length-most}
 use Rattle.frames.proofs.Turns.{lines-at, lines-past}
 use Rattle.reading.specs.Reading.{Refusal, refused, finished, frames-judged}
-use Rattle.reading.proofs.Refusals.{cases, &&-left, &&-right, passed}
+use Rattle.reading.proofs.Refusals.{&&-left, &&-right, passed}
 use Rattle.reading.proofs.Drafts.{frame-of, refusal-after}
 
 -- the refusal of some frames, after those that are done

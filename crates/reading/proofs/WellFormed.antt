@@ -9,7 +9,7 @@ use lib.Dec.{eqb, leb}
 use lib.ListN.{length, getD, take, length-map}
 use lib.Seq.{length-take-le}
 use borrow.Author.Tests.{le-leb, leb-true, eqb-true, eqb-false}
-use Rattle.meaning.specs.Logic.{Is, is, and-i, and-l, and-r, eq→Is}
+use Rattle.meaning.specs.Logic.{Is, is, and-i, and-l, and-r, eq→Is, cases}
 use Rattle.meaning.specs.Ranges.{is-range, all-ranges, typed, signatures, well-formed-equation, well-formed-equations}
 use Rattle.meaning.specs.Ranges.{well-formed}
 use Rattle.frames.specs.Lines.{line-place}
@@ -20,7 +20,7 @@ use Rattle.reading.specs.Equations.{four-ranges, ranges-in, body-in, is-
 use Rattle.reading.specs.Models.{equations-in, starts-in, is-none, model-of, start-in}
 use Rattle.reading.specs.Reading.{Refusal, instances-judged, start-judged, finished, frames-judged, text-refusal}
 use Rattle.reading.specs.Records.{kept, reading}
-use Rattle.reading.proofs.Refusals.{cases, &&-left, &&-right, passed}
+use Rattle.reading.proofs.Refusals.{&&-left, &&-right, passed}
 use Rattle.reading.proofs.Drafts.{EquationSound, Kept, Drafted, goes, refusal-after, kept-none, kept-more}
 use Rattle.reading.proofs.Drafts.{no-frame}
 

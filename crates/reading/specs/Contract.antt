@@ -6,7 +6,7 @@ use mathlib.Core.Path.{_≡_}
 use mathlib.Core.Bool.{Bool, true, false, cond, _&&_}
 use mathlib.Core.List.{List, [], _∷_}
 use lib.Dec.{eqb, leb}
-use lib.ListN.{length, getD, take, drop, set, replicate}
+use lib.ListN.{length, getD, take, drop, set}
 use lib.Seq.{sets}
 use Rattle.meaning.specs.Ranges.{all-ranges, typed}
 use Rattle.meaning.specs.Reach.{Instance}

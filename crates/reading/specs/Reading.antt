@@ -8,10 +8,10 @@ use mathlib.Core.List.{List, [], _∷_, _++_}
 use lib.Dec.{ltb, leb, eqb}
 use lib.ListN.{getD, length}
 use Rattle.meaning.specs.Ranges.{typed, signatures}
-use Rattle.frames.specs.Frames.{Frame, Frames, frames}
+use Rattle.frames.specs.Frames.{Frame, frames}
 use Rattle.formulas.specs.Bodies.{is-body, is-fitting}
 use Rattle.reading.specs.Equations.{ranges-in, body-in, is-valid-head, start-of}
-use Rattle.reading.specs.Models.{code-of, equations-in, starts-in, is-none, first-of, model-of}
+use Rattle.reading.specs.Models.{equations-in, starts-in, is-none, first-of, model-of}
 
 -- the number of the refusal, unless the test holds: then what the tests after it say; 0 is no refusal
 abbrev pub unless : Bool → ℕ → ℕ → ℕ

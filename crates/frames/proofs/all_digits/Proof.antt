@@ -36,10 +36,5 @@ all-digits-spec =
     Inv-loop
     μ-loop
     (λ c. (omega arith, refl))
-    (λ c. omega arith)
-    (λ c κs. search needs)
-    no-digit
-    (λ c. omega arith)
-    (λ c. omega arith)
-    loop-again
+    (λ c. omega arith) (λ c κs. search needs) no-digit (λ c. omega arith) (λ c. omega arith) loop-again
     all-seen)

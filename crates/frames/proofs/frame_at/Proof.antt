@@ -35,20 +35,8 @@ pub frame-at-spec : {M : Type 1} → statement M
 frame-at-spec =
     tie.close
     (tie.spec
-    (λ c κs. search needs)
-    (λ c κs. search needs)
-    (λ c. search needs)
-    (λ c. search needs)
-    (λ c. search needs)
-    (λ c. search needs)
-    (λ c κs. search needs)
-    (λ c κs. search needs)
-    refused-2
-    (λ c κs. search needs)
-    (λ c κs. search needs)
-    refused-3
-    (λ c. search needs)
-    (λ c. search needs)
-    (λ c. search needs)
+    (λ c κs. search needs) (λ c κs. search needs) (λ c. search needs) (λ c. search needs) (λ c. search needs)
+    (λ c. search needs) (λ c κs. search needs) (λ c κs. search needs) refused-2 (λ c κs. search needs)
+    (λ c κs. search needs) refused-3 (λ c. search needs) (λ c. search needs) (λ c. search needs)
     (λ c κs. search needs)
     framed)

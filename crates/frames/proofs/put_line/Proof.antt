@@ -40,16 +40,6 @@ put-line-spec =
     (tie.spec
     Inv-loop
     μ-loop
-    (λ c κs. search needs)
-    left-out
-    loop-holds
-    (λ c. omega arith)
-    (λ c κs. omega arith)
-    (λ c. omega arith)
-    (λ c. omega arith)
-    (λ c. omega arith)
-    loop-again
-    (λ c. omega arith)
-    (λ c. omega arith)
-    same-length
+    (λ c κs. search needs) left-out loop-holds (λ c. omega arith) (λ c κs. omega arith) (λ c. omega arith)
+    (λ c. omega arith) (λ c. omega arith) loop-again (λ c. omega arith) (λ c. omega arith) same-length
     returns)

@@ -96,9 +96,9 @@ taken c = length-take-le _ _ (room c)
 abbrev judged-at : tie.After-frame-refusal Inv-loop μ-loop → tie.Else2 Inv-loop μ-loop
 judged-at c = c .before .before .before
 
-asked : (c : tie.After-frame-refusal Inv-loop μ-loop) → let done = progress (judged-at c) .before .loop .inv .done in
+frame-judged : (c : tie.After-frame-refusal Inv-loop μ-loop) → let done = progress (judged-at c) .before .loop .inv .done in
     c .frame-refusal .result ≡ refusal-after done (bytes (judged-at c))
-asked c =
+frame-judged c =
     let d = progress (judged-at c) .before .loop .inv .drafted in
     rw (count-is d, unstarted-is d) at (c .frame-refusal .ensures)
 
@@ -109,8 +109,8 @@ frame-refused c =
     let loop = progress framed .before .loop in
     law.lines-refused _ _ _ _ (c .stop3 .ensures) (c .before .if3 .taken)
     (loop .inv .left ∙ turn.frame-stops _ _ _ _ (progress framed .loop-test .taken) (looked framed .frame-at .ensures)
-    (framed .if2 .left) (λ z. c .before .if3 .taken (asked number ∙ z)) ∙
-    ap (λ (n : ℕ). refused n (loop .line)) (sym (asked number)))
+    (framed .if2 .left) (λ z. c .before .if3 .taken (frame-judged number ∙ z)) ∙
+    ap (λ (n : ℕ). refused n (loop .line)) (sym (frame-judged number)))
 
 -- ---- a frame that is not refused
 abbrev framed : tie.Else3 Inv-loop μ-loop → tie.Else2 Inv-loop μ-loop
@@ -120,7 +120,7 @@ abbrev loop-at : tie.Else3 Inv-loop μ-loop → tie.At-loop Inv-loop μ-loop
 loop-at c = progress (framed c) .before
 
 passed : (c : tie.Else3 Inv-loop μ-loop) → refusal-after (loop-at c .loop .inv .done) (bytes (framed c)) ≡ 0
-passed c = sym (asked (c .before)) ∙ c .if3 .left
+passed c = sym (frame-judged (c .before)) ∙ c .if3 .left
 
 few : (c : tie.Else3 Inv-loop μ-loop) → getD (bytes (framed c)) 0 0 ≡ 1 → loop-at c .loop .m .count < 8
 few c = let p = loop-at c .loop .inv in not-ninth (p .drafted) _ _ _ (p .begins .place) (passed c)
@@ -192,12 +192,7 @@ read-lines-spec =
     (tie.spec
     Inv-loop
     μ-loop
-    (λ c κs. search needs)
-    too-long
-    (λ c κs. search needs)
-    starts
-    (λ c κs. search needs)
-    (λ c κs. search needs)
+    (λ c κs. search needs) too-long (λ c κs. search needs) starts (λ c κs. search needs) (λ c κs. search needs)
     (λ c. long (unframed c .before .before))
     line-refused
     (λ c. room (c .before))

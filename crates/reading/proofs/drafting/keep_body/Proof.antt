@@ -75,11 +75,6 @@ keep-body-spec =
     (λ c. search needs)
     (λ c. omega (arith, one-of-eight c))
     begins
-    (λ c. omega arith)
-    (λ c. omega arith)
-    (λ c. omega arith)
-    (λ c. omega arith)
-    (λ c. omega arith)
-    turns
+    (λ c. omega arith) (λ c. omega arith) (λ c. omega arith) (λ c. omega arith) (λ c. omega arith) turns
     (λ c. c .before .loop .inv .long ∙ sym (entry (c .before .before) .pre .2))
     ends)

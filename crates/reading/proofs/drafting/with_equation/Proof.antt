@@ -10,9 +10,5 @@ pub with-equation-spec : {M : Type 1} → statement M
 with-equation-spec =
     tie.close
     (tie.spec
-    (λ c. search needs)
-    (λ c. search needs)
-    (λ c. search needs)
-    (λ c. search needs)
-    (λ c. search needs)
+    (λ c. search needs) (λ c. search needs) (λ c. search needs) (λ c. search needs) (λ c. search needs)
     (λ c. unfold with-equation in refl))

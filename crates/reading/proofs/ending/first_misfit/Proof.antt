@@ -75,9 +75,5 @@ first-misfit-spec =
     (λ c. omega arith)
     (λ c. omega arith)
     (λ c. omega (arith, short c, turn c .before .before .pre .2))
-    (λ c κs. search needs)
-    found
-    (λ c. omega arith)
-    (λ c. omega arith)
-    one-more
+    (λ c κs. search needs) found (λ c. omega arith) (λ c. omega arith) one-more
     none)

@@ -21,9 +21,5 @@ pub is-valid-start-spec : {M : Type 1} → statement M
 is-valid-start-spec =
     tie.close
     (tie.spec
-    (λ c κs. search needs)
-    unnamed
-    (λ c. search needs)
-    (λ c. search needs)
-    (λ c κs. search needs)
+    (λ c κs. search needs) unnamed (λ c. search needs) (λ c. search needs) (λ c κs. search needs)
     named)

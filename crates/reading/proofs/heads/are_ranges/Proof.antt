@@ -9,16 +9,16 @@ use Rattle.reading.proofs.heads.are_ranges.Tie as tie
 
 returns : tie.Need-returns
 returns c =
-    let asked = c .before .before .before in
-    let first = asked .before .before .before in
+    let tests = c .before .before .before in
+    let first = tests .before .before .before in
     let n : length (first .before .args .t1) ≡ 4 = search needs in
     rw (
       c .and3 .ensures,
       c .before .and2 .ensures,
       c .before .before .and .ensures,
-      asked .is-range4 .ensures,
-      asked .before .is-range3 .ensures,
-      asked .before .before .is-range2 .ensures,
+      tests .is-range4 .ensures,
+      tests .before .is-range3 .ensures,
+      tests .before .before .is-range2 .ensures,
       first .is-range .ensures,
     ) (four-ranges (first .before .args .t1) n)
 
@@ -26,15 +26,7 @@ pub are-ranges-spec : {M : Type 1} → statement M
 are-ranges-spec =
     tie.close
     (tie.spec
-    (λ c. search needs)
-    (λ c κs. search needs)
-    (λ c. search needs)
-    (λ c κs. search needs)
-    (λ c. search needs)
-    (λ c κs. search needs)
-    (λ c. search needs)
-    (λ c κs. search needs)
-    (λ c κs. search needs)
-    (λ c κs. search needs)
+    (λ c. search needs) (λ c κs. search needs) (λ c. search needs) (λ c κs. search needs) (λ c. search needs)
+    (λ c κs. search needs) (λ c. search needs) (λ c κs. search needs) (λ c κs. search needs) (λ c κs. search needs)
     (λ c κs. search needs)
     returns)

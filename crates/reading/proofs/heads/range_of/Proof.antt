@@ -9,10 +9,7 @@ pub range-of-spec : {M : Type 1} → statement M
 range-of-spec =
     tie.close
     (tie.spec
-    (λ c κs. search needs)
-    (λ c κs. search needs)
-    (λ c. search needs)
-    (λ c κs. search needs)
+    (λ c κs. search needs) (λ c κs. search needs) (λ c. search needs) (λ c κs. search needs)
     (λ c. let k = c .before .before in
     let there = rw (k .wide .ensures .0, k .before .element .ensures) at (c .before .if1 .taken) in
     rw (lt-ltb _ _ there, c .element2 .ensures))
