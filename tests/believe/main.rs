@@ -13,7 +13,7 @@ const END: &str = "<!-- believed: end -->\n";
 const HEADLINES: &str = "answers/specs/Demand1 answers/specs/Demand2 answers/specs/Demand3
     frames/specs/RoundTrip reading/proofs/LineNumbers answers/specs/Samples checker/specs/Lent checker/specs/Promises
     meaning/specs/Looser meaning/specs/Counterexamples printing/specs/Promise printing/proofs/Answered";
-const LIBRARIES: &str = "mathlib lib Prim borrow native";
+const LIBRARIES: &str = "mathlib lib mir Prim borrow native";
 const LANGUAGE: &str = "( ) { } [ ] ; , : = | ↦ → × λ ⌜ ⌝ _ ⊥ Type Unit tt abbrev unfoldable pub data record
     unfolding where let in elim absurd struct enum ensures requires now -> mut bool u8 u16 u32 u64 usize";
 

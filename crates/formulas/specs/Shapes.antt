@@ -7,6 +7,7 @@ use mathlib.Core.Bool.{Bool, true, false, cond, _&&_}
 use mathlib.Core.List.{List, [], _∷_}
 use lib.Dec.{T, eqb, eqb→eq, ltb, leb}
 use lib.ListN.{getD}
+use mir.Facts.{and-yes}
 use Rattle.meaning.specs.Formulas.{number, variable, calculated}
 use Rattle.meaning.specs.Formulas.{Formula, constant, joined, quantified, compared, instance}
 use Rattle.meaning.specs.Ranges.{is-range}
@@ -42,18 +43,10 @@ abbrev all-count : List Row → Bool
 all-count [] = true
 all-count (r ∷ rs) = row-counts r && all-count rs
 
-left : (a b : Bool) → T (a && b) → T a
-left true b t = tt
-left false b t = t
-
-right : (a b : Bool) → T (a && b) → T b
-right true b t = t
-right false b t = absurd t
-
 one-counts : (rs : List Row) (i : ℕ) → T (all-count rs) → T (row-counts (getD rs i no-row))
 one-counts [] i t = tt
-one-counts (r ∷ rs) zero t = left (row-counts r) (all-count rs) t
-one-counts (r ∷ rs) (suc i) t = one-counts rs i (right (row-counts r) (all-count rs) t)
+one-counts (r ∷ rs) zero t = and-yes (row-counts r) (all-count rs) t .0
+one-counts (r ∷ rs) (suc i) t = one-counts rs i (and-yes (row-counts r) (all-count rs) t .1)
 
 chosen : (b : Bool) (r : Row) → T (row-counts r) → T (row-counts (cond b r no-row))
 chosen true r t = t
@@ -70,14 +63,14 @@ module _ (code n : ℕ) where
   formula-operands {kind} h e =
       let f = formula-counts (kind-of code) (operands-of code) in
       let t = term-counts (term-kind-of code) (operands-of code) in
-      eqb→eq (operands-of code) n (rw (h, e) at (left f t (counts code)))
+      eqb→eq (operands-of code) n (rw (h, e) at (and-yes f t (counts code) .0))
 
   pub term-operands : {kind : TermKind} → term-kind-of code ≡ kind →
       term-counts kind (operands-of code) ≡ eqb (operands-of code) n → operands-of code ≡ n
   term-operands {kind} h e =
       let f = formula-counts (kind-of code) (operands-of code) in
       let t = term-counts (term-kind-of code) (operands-of code) in
-      eqb→eq (operands-of code) n (rw (h, e) at (right f t (counts code)))
+      eqb→eq (operands-of code) n (rw (h, e) at (and-yes f t (counts code) .1))
 
 -- byte 0, which is what stands past the end, is no code
 pub no-kind : kind-of 0 ≡ NoFormula

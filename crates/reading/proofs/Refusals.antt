@@ -3,7 +3,7 @@
 use Prim.Native.Nat.{ℕ, _+_, _-_, _≤_, _<_}
 use native.Mathlib.Omega.{arith}
 use mathlib.Core.Path.{_≡_, refl, sym, _∙_}
-use mathlib.Core.Bool.{Bool, true, false, cond, not, _&&_}
+use mathlib.Core.Bool.{Bool, true, false, cond, not, _&&_, and-eq-true-iff}
 use mathlib.Core.List.{List}
 use lib.ListN.{length, take, drop, length-drop}
 use lib.Seq.{take-all}
@@ -16,12 +16,10 @@ use Rattle.reading.specs.Reading.{equation-refusal}
 use Rattle.reading.specs.Records.{equation-record}
 
 pub &&-left : (a b : Bool) → a && b ≡ true → a ≡ true
-&&-left true b h = refl
-&&-left false b h = h
+&&-left a b h = and-eq-true-iff a b .0 h .0
 
 pub &&-right : (a b : Bool) → a && b ≡ true → b ≡ true
-&&-right true b h = h
-&&-right false b h = let z : _≡_ {A = ℕ} 0 1 = cc in absurd (omega arith)
+&&-right a b h = and-eq-true-iff a b .0 h .1
 
 -- where a test would give a number other than 0, and 0 came, the test holds
 pub passed : {A : Type 0} (number : A → ℕ) (b : Bool) {r x : A} → number (cond b r x) ≡ 0 → 0 < number x
