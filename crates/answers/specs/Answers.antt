@@ -13,6 +13,7 @@ use Rattle.meaning.specs.Words.{word}
 use Rattle.frames.specs.Frames.{frames}
 use Rattle.reading.specs.Models.{model-of, start-in}
 use Rattle.reading.specs.Reading.{text-refusal}
+use Rattle.truth.specs.Bits.{bit}
 use Rattle.truth.specs.Words.{truth-words, count-true}
 use Rattle.answers.specs.declared.Answer.{Answer}
 
@@ -38,10 +39,6 @@ shown-values t = map (truth-in (the-model t)) (list t)
 -- "room is its length, or 512 where it is longer"
 abbrev pub room-of : ℕ → ℕ
 room-of length-lent = min length-lent 512
-
-abbrev pub bit : Bool → ℕ
-bit true = 1
-bit false = 0
 
 -- "On refusal all 512 bits are clear"; "both counts are 0, and so is any field for the verdict"
 abbrev pub refusal : ℕ → ℕ → Answer

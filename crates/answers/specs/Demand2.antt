@@ -24,11 +24,11 @@ use Rattle.meaning.specs.Solving.{table-value}
 use Rattle.meaning.specs.WordLaws.{word-injective}
 use Rattle.reading.specs.Reading.{text-refusal}
 use Rattle.reading.proofs.WellFormed.{reading-well-formed}
-use Rattle.truth.specs.Bits.{bit-of, count-below}
+use Rattle.truth.specs.Bits.{bit, bit-of, count-below}
 use Rattle.truth.specs.Words.{count-true}
 use Rattle.truth.proofs.Words.{truth-words-bits, truth-words-count}
 use Rattle.answers.specs.declared.Answer.{Answer}
-use Rattle.answers.specs.Answers.{the-model, the-start, list, truth-in, shown-values, room-of, bit}
+use Rattle.answers.specs.Answers.{the-model, the-start, list, truth-in, shown-values, room-of}
 use Rattle.answers.specs.Answers.{verdict, answer}
 use Rattle.answers.specs.Demand1.{_exactly-when_, verdict-given, then-verdict, records-enough}
 

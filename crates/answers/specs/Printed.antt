@@ -10,7 +10,8 @@ use Rattle.frames.specs.Frames.{line-of}
 use Rattle.meaning.specs.Models.{Model}
 use Rattle.meaning.specs.Reach.{Instance}
 use Rattle.answers.specs.declared.Answer.{Answer}
-use Rattle.answers.specs.Answers.{answer, list, truth-in, the-model, bit}
+use Rattle.truth.specs.Bits.{bit}
+use Rattle.answers.specs.Answers.{answer, list, truth-in, the-model}
 
 -- "two bytes each, high byte first"
 abbrev pub two-bytes : ℕ → List ℕ

@@ -14,16 +14,21 @@ use Rattle.finding.specs.FoundWords.{FoundWords, has-word, add-one}
 use Rattle.finding.proofs.FoundWordsLaws.{add-known, add-new, add-last}
 use Rattle.finding.specs.Kept.{found-of, found-words, Kept, Adds, found-fits, found-over}
 
-module _ (t : List ℕ) (n w : ℕ) (few : n ≤ length t + 1) where
+-- there is room for the n words found, and w is not among them
+pub record New (t : List ℕ) (n w : ℕ) : Type 0 where
+  pub fits : n ≤ length t
+  pub absent : n ≤ index-of (take n t) w
+
+module _ (t : List ℕ) (n w : ℕ) where
   abbrev room : ℕ
   room = length t
 
   stays : {r : ℕ} → n ≤ r → Kept room t t (found-of room n) (found-of room r)
   stays h = record { more = omega arith; within = omega arith; rest = refl; size = refl }
 
-  pub adds-full : room < n → Adds room t t n n w
+  pub adds-full : n ≤ room + 1 → room < n → Adds room t t n n w
   unfolding add-one
-  adds-full h = record { within = few; kept = stays (omega arith); added = rw (lt-ltb room n h) refl }
+  adds-full few h = record { within = few; kept = stays (omega arith); added = rw (lt-ltb room n h) refl }
 
   module _ (fits : n ≤ room) where
     known-length : length (take n t) ≡ n
@@ -37,29 +42,33 @@ module _ (t : List ℕ) (n w : ℕ) (few : n ≤ length t + 1) where
     adds-there h =
         let there = lt-ltb (index-of (take n t) w) (length (take n t)) (omega (arith, known-length)) in
         let known = add-known room (take n t) w there in
-        record { within = few; kept = stays (omega arith); added = added (found-fits room t fits) known }
+        record { within = omega arith; kept = stays (omega arith); added = added (found-fits room t fits) known }
 
-    module _ (new : n ≤ index-of (take n t) w) where
-      absent : has-word (take n t) w ≡ false
-      absent = le-ltb (index-of (take n t) w) (length (take n t)) (omega (arith, known-length))
+module _ {t : List ℕ} {n w : ℕ} (new : New t n w) where
+  long : length (take n t) ≡ n
+  long = known-length t n w (new .fits)
 
-      pub adds-past : room ≤ n → Adds room t t n (n + 1) w
-      adds-past h =
-          let whole : room ≡ n = omega arith in
-          let last = add-last n (take n t) w absent (omega (arith, known-length)) in
-          record {
-            within = omega arith;
-            kept = stays (omega arith);
-            added = added (found-over room t (omega arith)) (rw whole last);
-          }
+  unknown : has-word (take n t) w ≡ false
+  unknown = le-ltb (index-of (take n t) w) (length (take n t)) (omega (arith, long, new .absent))
 
-      pub adds-behind : n < room → Adds room t (set t n w) n (n + 1) w
-      adds-behind h =
-          let longer : take (n + 1) (set t n w) ≡ take n t ++ (w ∷ []) = rw (one-more n) (take-suc-set t n w (omega arith)) in
-          let rest = drop-set-lt (min (n + 1) room) t n w (omega arith) in
-          record {
-            within = omega arith;
-            kept = record { more = omega arith; within = omega arith; rest = rest; size = length-set t n w };
-            added = added (found-fits room (set t n w) (omega arith) ∙ ap (λ (k : List ℕ). (k, false)) longer)
-                (add-new room (take n t) w absent (omega (arith, known-length)));
-          }
+  pub adds-past : length t ≤ n → Adds (length t) t t n (n + 1) w
+  adds-past h =
+      let whole : length t ≡ n = omega (arith, new .fits) in
+      let last = add-last n (take n t) w unknown (omega (arith, long)) in
+      record {
+        within = omega (arith, new .fits);
+        kept = stays t n w (omega arith);
+        added = added t n w (new .fits) (found-over (length t) t (omega arith)) (rw whole last);
+      }
+
+  pub adds-behind : n < length t → Adds (length t) t (set t n w) n (n + 1) w
+  adds-behind h =
+      let longer : take (n + 1) (set t n w) ≡ take n t ++ (w ∷ []) = rw (one-more n) (take-suc-set t n w (omega arith)) in
+      let rest = drop-set-lt (min (n + 1) (length t)) t n w (omega arith) in
+      record {
+        within = omega arith;
+        kept = record { more = omega arith; within = omega arith; rest = rest; size = length-set t n w };
+        added = added t n w (new .fits)
+            (found-fits (length t) (set t n w) (omega arith) ∙ ap (λ (k : List ℕ). (k, false)) longer)
+            (add-new (length t) (take n t) w unknown (omega (arith, long)));
+      }

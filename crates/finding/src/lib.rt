@@ -28,13 +28,13 @@ fn gather_side(
     ensures { λ r. ⌜ SideGathers (now (bodies .entry)) equations w (length (now (table .entry)))
         (now (table .entry)) (now (table .exit)) n r ⌝ }
 {
-    let e = words::equation_of(w);
+    let e = words::equation_number(w);
     if 8 <= e {
         return n;
     }
     let equation = equations[e];
     let body = instances::body_of(bodies, w, equation.length);
-    let scope = words::arguments_of(w, equation.k);
+    let scope = words::argument_tuple(w, equation.k);
     let none = truth::none();
     let mut found = n;
     gather(body, 0, scope, apart(0), table, &none, &mut found);

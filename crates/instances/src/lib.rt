@@ -12,7 +12,7 @@ use formulas::Equation;
 pub fn body_of(bodies: &[u8], w: u32, length: usize) -> &[u8]
     ensures { λ r. ⌜ now r ≡ body-part (now (bodies .entry)) (equation-number w) length ⌝ }
 {
-    let first = basics::smaller(words::equation_of(w) * 256, bodies.len());
+    let first = basics::smaller(words::equation_number(w) * 256, bodies.len());
     let end = first + basics::smaller(length, bodies.len() - first);
     &bodies[first..end]
 }
@@ -39,11 +39,11 @@ pub fn right_side(
     ensures { λ r. ⌜ r ≡ side-of (now (bodies .entry)) equations (now (table .entry))
         (bit-of (now (truth .entry))) w ⌝ }
 {
-    let e = words::equation_of(w);
+    let e = words::equation_number(w);
     if 8 <= e {
         return Value::False;
     }
     let equation = equations[e];
     let body = body_of(bodies, w, equation.length);
-    evaluator::evaluate(body, words::arguments_of(w, equation.k), table, truth)
+    evaluator::evaluate(body, words::argument_tuple(w, equation.k), table, truth)
 }

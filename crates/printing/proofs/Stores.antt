@@ -13,8 +13,7 @@ use mir.Val.{boolByte}
 use Rattle.meaning.specs.WordLaws.{arguments-of}
 use Rattle.formulas.specs.declared.Equation.{Equation}
 use Rattle.formulas.specs.declared.Tuple.{Tuple}
-use Rattle.truth.specs.Bits.{bit-of}
-use Rattle.answers.specs.Answers.{bit}
+use Rattle.truth.specs.Bits.{bit, bit-of}
 use Rattle.answers.specs.Printed.{verdict-frame, refusal-frame}
 use Rattle.frames.specs.Frames.{line-of}
 use Rattle.frames.specs.PutLine.{Puts}

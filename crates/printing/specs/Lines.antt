@@ -11,8 +11,7 @@ use Rattle.meaning.specs.WordLaws.{arguments-of}
 use Rattle.formulas.specs.declared.Equation.{Equation}
 use Rattle.formulas.specs.Bodies.{blank}
 use Rattle.frames.specs.Frames.{line-of}
-use Rattle.truth.specs.Bits.{bit-of}
-use Rattle.answers.specs.Answers.{bit}
+use Rattle.truth.specs.Bits.{bit, bit-of}
 use Rattle.answers.specs.Printed.{verdict-frame, refusal-frame}
 use Rattle.engine.specs.declared.Examined.{Examined}
 use Rattle.printing.specs.declared.Frame.{Frame}

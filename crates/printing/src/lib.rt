@@ -78,9 +78,9 @@ fn instance_frame(equations: [Equation; 8], word: u32, value: bool) -> Frame
     ensures { λ r. ⌜ (bytes-of r ≡ word-frame equations word value) ×
         (r .count ≡ parameters-of equations word + 3) ⌝ }
 {
-    let e = words::equation_of(word);
+    let e = words::equation_number(word);
     let equation = equations[e];
-    let arguments = words::arguments_of(word, equation.k);
+    let arguments = words::argument_tuple(word, equation.k);
     let p = arguments.values;
     let k = arguments.count;
     let mut bytes = [4, e as u8, p[0], p[1], p[2], p[3], 0, 0];

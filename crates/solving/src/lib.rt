@@ -18,7 +18,7 @@ fn first_candidates(equations: [Equation; 8], count: usize, table: &[u32]) -> [u
     let mut s = truth::none();
     let mut j: usize = 0;
     while j < table.len() {
-        let e = words::equation_of(table[j]);
+        let e = words::equation_number(table[j]);
         if e < count {
             let sign = equations[e].sign;
             let u = truth::put(s, j, sign == 1);
@@ -46,7 +46,7 @@ fn next_candidate(
     let mut j: usize = 0;
     while j < table.len() {
         let w = table[j];
-        if words::equation_of(w) == e {
+        if words::equation_number(w) == e {
             let value = instances::right_side(bodies, equations, w, table, &inner);
             let u = truth::put(s, j, instances::is_true(value));
             s = u;

@@ -32,13 +32,14 @@ unfoldable pub same-below : ℕ → (ℕ → Bool) → (ℕ → Bool) → Bool
 same-below zero f g = true
 same-below (suc n) f g = same-below n f g && Bool·beq (f n) (g n)
 
-abbrev pub number-of : Bool → ℕ
-number-of b = cond b 1 0
+-- a truth value as a number
+abbrev pub bit : Bool → ℕ
+bit b = cond b 1 0
 
 -- at how many numbers below n is f true
 unfoldable pub count-below : ℕ → (ℕ → Bool) → ℕ
 count-below zero f = 0
-count-below (suc n) f = count-below n f + number-of (f n)
+count-below (suc n) f = count-below n f + bit (f n)
 
 -- r is how many of the 512 instances are in the set
 abbrev pub Counts : List ℕ → ℕ → Type 0

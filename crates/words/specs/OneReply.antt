@@ -13,8 +13,8 @@ pub one-word-of : (equation : ℕ) (arguments : Tuple) {r s : ℕ}
     → r ≡ word (equation ∷ items arguments) → s ≡ word (equation ∷ items arguments) → r ≡ s
 one-word-of equation arguments = one-reply
 
-pub one-equation-of : (w : ℕ) {r s : ℕ} → r ≡ equation-number w → s ≡ equation-number w → r ≡ s
-one-equation-of w = one-reply
+pub one-equation-number : (w : ℕ) {r s : ℕ} → r ≡ equation-number w → s ≡ equation-number w → r ≡ s
+one-equation-number w = one-reply
 
-pub one-arguments-of : (w k : ℕ) {r s : Tuple} → r ≡ argument-tuple w k → s ≡ argument-tuple w k → r ≡ s
-one-arguments-of w k = one-reply
+pub one-argument-tuple : (w k : ℕ) {r s : Tuple} → r ≡ argument-tuple w k → s ≡ argument-tuple w k → r ≡ s
+one-argument-tuple w k = one-reply

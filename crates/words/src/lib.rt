@@ -21,14 +21,14 @@ pub fn word_of(equation: u8, arguments: Tuple) -> u32
 }
 
 // The number of the equation that a word names.
-pub fn equation_of(w: u32) -> usize
+pub fn equation_number(w: u32) -> usize
     ensures { λ r. ⌜ r ≡ equation-number w ⌝ }
 {
     (w / 65536) as usize
 }
 
 // The first k arguments that a word names, at most four.
-pub fn arguments_of(w: u32, k: u8) -> Tuple
+pub fn argument_tuple(w: u32, k: u8) -> Tuple
     ensures { λ r. ⌜ r ≡ argument-tuple w k ⌝ }
 {
     Tuple {

@@ -11,7 +11,7 @@ use Rattle.finding.proofs.gather_side.Statement.{statement}
 use Rattle.finding.proofs.gather_side.Tie as tie
 
 -- where the equation's number is known, seen from where the arguments are
-abbrev named : tie.After-arguments-of → tie.After-equation-of
+abbrev named : tie.After-argument-tuple → tie.After-equation-number
 named s = s .before .before .before .before
 
 past : tie.Need-returns
@@ -19,12 +19,12 @@ past c =
     let e = c .before in
     let a = e .before .before .before .args in
     let eight : length (a .t2) ≡ 8 = search needs in
-    side-past (a .bodies .now) (a .t2) (a .w) (e .equation-of .ensures) eight (c .if1 .taken) (omega arith)
+    side-past (a .bodies .now) (a .t2) (a .w) (e .equation-number .ensures) eight (c .if1 .taken) (omega arith)
 
 gather-requires : tie.Need-gather-requires
 gather-requires c κs =
     let around = c .before .before .before in
-    let count = ap (λ (x : Tuple). x .count) (around .before .before .arguments-of .ensures) ∙ argument-count _ _ in
+    let count = ap (λ (x : Tuple). x .count) (around .before .before .argument-tuple .ensures) ∙ argument-count _ _ in
     record { reach = rw (around .apart .ensures) (omega arith); few = omega arith }
 
 gathered : tie.Need-returns-2
@@ -34,8 +34,8 @@ gathered c =
     let s = around .before .before in
     let e = named s in
     let a = e .before .before .before .args in
-    side-gathers (a .bodies .now) (a .t2) (a .w) (e .equation-of .ensures)
-    (s .before .body-of .ensures) (s .arguments-of .ensures) (rw (around .apart .ensures) at (g .gather .ensures))
+    side-gathers (a .bodies .now) (a .t2) (a .w) (e .equation-number .ensures)
+    (s .before .body-of .ensures) (s .argument-tuple .ensures) (rw (around .apart .ensures) at (g .gather .ensures))
 
 pub gather-side-spec : {M : Type 1} → statement M
 gather-side-spec =

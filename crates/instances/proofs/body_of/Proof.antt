@@ -11,7 +11,7 @@ returns c =
     let e = c .before .before .before in
     let a = e .before .before .args in
     part-cut (a .bodies .now) (a .w / 65536 * 256) (a .length)
-    (rw (← e .equation-of .ensures) (c .before .before .smaller .ensures)) (c .before .smaller2 .ensures)
+    (rw (← e .equation-number .ensures) (c .before .before .smaller .ensures)) (c .before .smaller2 .ensures)
 
 pub body-of-spec : {M : Type 1} → statement M
 body-of-spec =

@@ -12,15 +12,15 @@ past c =
     let e = c .before in
     let a = e .before .before .before .args in
     let eight : length (a .t2) ≡ 8 = search needs in
-    side-past (a .bodies .now) (a .t2) (a .table .now) (a .truth .now) (a .w) (e .equation-of .ensures) eight (c .if1 .taken)
+    side-past (a .bodies .now) (a .t2) (a .table .now) (a .truth .now) (a .w) (e .equation-number .ensures) eight (c .if1 .taken)
 
 there : tie.Need-returns-2
 there c =
     let body = c .before .before in
     let e = body .before .before .before in
     let a = e .before .before .before .args in
-    side-given (a .bodies .now) (a .t2) (a .table .now) (a .truth .now) (a .w) (e .equation-of .ensures)
-    (body .body-of .ensures) (c .before .arguments-of .ensures) (c .evaluate .ensures)
+    side-given (a .bodies .now) (a .t2) (a .table .now) (a .truth .now) (a .w) (e .equation-number .ensures)
+    (body .body-of .ensures) (c .before .argument-tuple .ensures) (c .evaluate .ensures)
 
 pub right-side-spec : {M : Type 1} → statement M
 right-side-spec =

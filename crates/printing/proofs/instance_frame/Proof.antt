@@ -13,16 +13,16 @@ use borrow.Author.Needs.{needs}
 use Rattle.printing.proofs.instance_frame.Statement.{statement}
 use Rattle.printing.proofs.instance_frame.Tie as tie
 
-module _ (c : tie.After-arguments-of) where
+module _ (c : tie.After-argument-tuple) where
   abbrev start : tie.Start
   start = c .before .before .before
 
-  unpacked : c .arguments-of .result ≡ argument-tuple (start .args .word) (parameters-of (start .args .t1) (start .args .word))
-  unpacked = c .arguments-of .ensures
+  unpacked : c .argument-tuple .result ≡ argument-tuple (start .args .word) (parameters-of (start .args .t1) (start .args .word))
+  unpacked = c .argument-tuple .ensures
       ∙ ap (λ (e : ℕ). argument-tuple (start .args .word) (getD (start .args .t1) e blank .k))
-      (c .before .before .equation-of .ensures)
+      (c .before .before .equation-number .ensures)
 
-  few : c .arguments-of .result .count ≤ 4
+  few : c .argument-tuple .result .count ≤ 4
   few =
       let count = ap (λ (x : Tuple). x .count) unpacked ∙ argument-count _ _ in
       omega arith
@@ -31,7 +31,7 @@ returns : tie.Need-returns
 returns c =
     let s = c .before in
     let a = start s .args in
-    frame-stored (a .t1) (a .word) (a .value) (s .before .before .equation-of .ensures) (unpacked s) (start s .pre .1)
+    frame-stored (a .t1) (a .word) (a .value) (s .before .before .equation-number .ensures) (unpacked s) (start s .pre .1)
 
 pub instance-frame-spec : {M : Type 1} → statement M
 instance-frame-spec =

@@ -22,7 +22,7 @@ loop-again : tie.Need-loop-again Inv-loop μ-loop
 loop-again c =
     let turn = c .before .before .before .before in
     let a = turn .before .before .before .args in
-    let is = c .before .equation-of .ensures in
+    let is = c .before .equation-number .ensures in
     ⊎-elim
     (λ w. fill-more (turn .loop .inv) (omega arith) (omega arith) (named-below (a .table .now) _ is (w .0 .taken))
     (constant-is (a .table .now) _ is (a .t1)) (w .1 .ensures) (w .2))

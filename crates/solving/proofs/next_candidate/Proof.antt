@@ -24,7 +24,7 @@ unfolding sides
 loop-again c =
     let turn = c .before .before .before .before in
     let table = turn .before .before .before .args .table .now in
-    let is = c .before .equation-of .ensures in
+    let is = c .before .equation-number .ensures in
     ⊎-elim
     (λ w. fill-more (turn .loop .inv) (omega arith) (omega arith) (named table _ is (w .0 .taken))
     (w .3 .ensures ∙ ap is-true (w .2 .ensures)) (w .4 .ensures) (w .5))
