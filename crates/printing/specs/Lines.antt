@@ -2,7 +2,7 @@
 -- records.
 -- That these are the lines of the text's answer is shown in proofs/Answered.
 use mathlib.Core.Path.{_≡_}
-use Prim.Native.Nat.{ℕ, suc, _/_, _≤_, _<_}
+use Prim.Native.Nat.{ℕ, suc, _≤_, _<_}
 use mathlib.Core.Bool.{Bool, cond}
 use mathlib.Core.List.{List, [], _∷_, _++_}
 use lib.Dec.{eqb}
@@ -12,6 +12,7 @@ use Rattle.formulas.specs.declared.Equation.{Equation}
 use Rattle.formulas.specs.Bodies.{blank}
 use Rattle.frames.specs.Frames.{line-of}
 use Rattle.truth.specs.Bits.{bit, bit-of}
+use Rattle.words.specs.Unpacked.{equation-number}
 use Rattle.answers.specs.Printed.{verdict-frame, refusal-frame}
 use Rattle.engine.specs.declared.Examined.{Examined}
 use Rattle.printing.specs.declared.Frame.{Frame}
@@ -21,12 +22,12 @@ bytes-of f = take (f .count) (f .bytes)
 
 -- how many parameters the equation of a word has
 abbrev pub parameters-of : List Equation → ℕ → ℕ
-parameters-of equations w = getD equations (w / 65536) blank .k
+parameters-of equations w = getD equations (equation-number w) blank .k
 
 -- the frame of a word: its equation, as many arguments as that has parameters, and the value
 unfoldable pub word-frame : List Equation → ℕ → Bool → List ℕ
 word-frame equations w value =
-    0x04 ∷ w / 65536 ∷ (arguments-of (parameters-of equations w) w ++ (bit value ∷ []))
+    0x04 ∷ equation-number w ∷ (arguments-of (parameters-of equations w) w ++ (bit value ∷ []))
 
 -- the lines of the words from number j on
 unfoldable pub word-lines : List Equation → List ℕ → ℕ → List ℕ → List ℕ
@@ -48,7 +49,7 @@ answer-text words e =
 -- every word is that of an equation, which has at most four parameters
 unfoldable pub Readable : List Equation → List ℕ → Type 0
 Readable equations ws = (j : ℕ) → j < length ws
-    → (getD ws j 0 / 65536 < 8) × (parameters-of equations (getD ws j 0) ≤ 4)
+    → (equation-number (getD ws j 0) < 8) × (parameters-of equations (getD ws j 0) ≤ 4)
 
 -- on a verdict, the words of the reached instances are there
 pub record Printable (words : List ℕ) (e : Examined) : Type 0 where

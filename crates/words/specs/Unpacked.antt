@@ -1,10 +1,10 @@
 -- DEFINITIONS: what a word names: the number of an equation, and arguments. Document 01, "What is lent".
 -- "A word is equation × 65,536 + p0 × 4,096 + p1 × 256 + p2 × 16 + p3, absent parameters 0."
-use Prim.Native.Nat.{ℕ, _/_, _%_, _≤_, min}
+use Prim.Native.Nat.{ℕ, _/_, _≤_, min}
 use native.Mathlib.Decide.{decLe}
 use native.Mathlib.Omega.{arith}
 use mathlib.Core.Path.{_≡_, refl, sym, _∙_}
-use mathlib.Core.List.{List, [], _∷_}
+use mathlib.Core.List.{List, [], _∷_, _++_}
 use lib.ListN.{length, take}
 use lib.Seq.{take-all, take-length, take-append-le}
 use Rattle.meaning.specs.WordLaws.{arguments-of}
@@ -17,7 +17,7 @@ equation-number w = w / 65536
 -- the first k arguments: "parameter count k (0 to 4)", so there are no more than four
 unfoldable pub argument-tuple : (w k : ℕ) → Tuple
 argument-tuple w k = record {
-  values = w / 4096 % 16 ∷ w / 256 % 16 ∷ w / 16 % 16 ∷ w % 16 ∷ 0 ∷ 0 ∷ 0 ∷ 0 ∷ [];
+  values = arguments-of 4 w ++ (0 ∷ 0 ∷ 0 ∷ 0 ∷ []);
   count = min k 4;
 }
 
