@@ -144,6 +144,15 @@ module _ (s : List ℕ) where
       every-kind n (formula-at n s) (λ k q at. earlier (every-formula n k q at)) (kind-of (getD s at 0))
       (operands-of (getD s at 0)) k q at
 
+-- ---- so of what was read: it is sound, and it ends past its place
+module _ (s : List ℕ) (n k at : ℕ) {e : ℕ} where
+  pub terms-sound : (c : ℕ) {ts : List Term} → terms-at n c s k at ≡ some ts e → Is (sound-terms k ts) × (at ≤ e)
+  terms-sound c {ts} h = let row = every-some (rw h at (every-terms s k n c at)) in (all-sound k ts (row .all), row .on)
+
+  pub formula-sound : (q : ℕ) {f : Formula} → formula-at n s k q at ≡ some f e → Is (sound k q f) × (at < e)
+  unfolding SoundFormula
+  formula-sound q h = let read = every-some (rw h at (every-formula s n k q at)) in (read .0, omega (arith, read .1))
+
 -- ---- a body that is one formula
 ended : (p : Parsed Formula) (z : ℕ) → ends z p ≡ true → p ≡ some (found p) z
 ended none z h = absurd (false≢true h)

@@ -5,3 +5,4 @@ pub mod Bodies
 pub mod Signatures
 pub mod Decoded
 pub mod Fitting
+pub mod Ended

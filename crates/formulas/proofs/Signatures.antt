@@ -21,7 +21,7 @@ module _ (table : List ℕ) where
   part-length j zero = refl
   part-length j (suc c) = ap suc (part-length (j + 1) c)
 
-  part-at : (j c i : ℕ) → i < c → getD (part table j c) i 0 ≡ getD table (j + i) 0
+  pub part-at : (j c i : ℕ) → i < c → getD (part table j c) i 0 ≡ getD table (j + i) 0
   unfolding part
   part-at j zero i h = absurd (omega arith)
   part-at j (suc c) zero h = ap (λ (x : ℕ). getD table x 0) (omega arith)

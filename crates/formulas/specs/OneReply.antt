@@ -14,6 +14,7 @@ use Rattle.formulas.specs.declared.Tuple.{Tuple}
 use Rattle.formulas.specs.Codes.{kind-of, term-kind-of, operands-of}
 use Rattle.formulas.specs.Tuples.{items, Pushes}
 use Rattle.formulas.specs.Bodies.{ranges-of, signatures-of, is-body, is-fitting}
+use Rattle.formulas.specs.Ends.{condition-end, terms-end}
 
 pub one-kind-of : (code : ℕ) {r s : Kind} → r ≡ kind-of code → s ≡ kind-of code → r ≡ s
 one-kind-of code = one-reply
@@ -42,3 +43,12 @@ pub one-is-fitting : (body : List ℕ) (e : Equation) (equations : List Equation
     → r ≡ is-fitting (signatures-of equations count) body (ranges-of e)
     → s ≡ is-fitting (signatures-of equations count) body (ranges-of e) → r ≡ s
 one-is-fitting body e equations count = one-reply
+
+pub one-condition-end : (body : List ℕ) (at : ℕ) (scope : Tuple) {r s : ℕ}
+    → r ≡ condition-end body at (items scope) → s ≡ condition-end body at (items scope) → r ≡ s
+one-condition-end body at scope = one-reply
+
+pub one-terms-end : (body : List ℕ) (at : ℕ) (scope ranges : Tuple) {r s : ℕ}
+    → r ≡ terms-end body at (items scope) (items ranges)
+    → s ≡ terms-end body at (items scope) (items ranges) → r ≡ s
+one-terms-end body at scope ranges = one-reply

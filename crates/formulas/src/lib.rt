@@ -5,13 +5,14 @@ mod parameters;
 mod terms;
 mod tuples;
 
-ghost use mathlib.Core.Bool.{true, false, _&&_};
+ghost use mathlib.Core.Bool.{true, false, cond, _&&_};
 ghost use mathlib.Core.Path.{_≡_};
 ghost use Prim.Native.Nat.{_+_, _≤_};
 ghost use lib.ListN.{length};
 ghost use Rattle.meaning.specs.Ranges.{is-range, arguments-fit, fits};
 ghost use Rattle.formulas.specs.Tuples.{items};
 ghost use Rattle.formulas.specs.Bodies.{ranges-of, signatures-of, body-at, is-body, is-fitting};
+ghost use Rattle.formulas.specs.Ends.{condition-end, terms-end};
 ghost use Rattle.formulas.specs.Contract.{part, signatures-in};
 ghost use Rattle.formulas.specs.Contract.{Told, TermsTold, InstanceTold, FormulaTold};
 pub use codes::kind_of;
@@ -20,6 +21,7 @@ pub use codes::term_kind_of;
 use parameters::parameters_of;
 use parameters::signatures_of;
 use terms::read_term;
+use tuples::counted;
 pub use tuples::item;
 pub use tuples::push;
 
@@ -107,7 +109,7 @@ fn read_arguments(
     at: usize,
     scope: Tuple,
     c: u8,
-    signatures: &[u8; 41],
+    signatures: &[u8],
     j: usize,
     fits: bool,
 ) -> Span
@@ -235,4 +237,38 @@ pub fn is_fitting(body: &[u8], e: Equation, equations: [Equation; 8], count: usi
 {
     let a = read_body(body, e, equations, count);
     if a.ok { a.fits } else { true }
+}
+
+// Where something ends that was read and fits; 0 where there is nothing such.
+fn end_of(a: Span) -> usize
+    ensures { λ r. ⌜ r ≡ cond (a .ok && a .fits) (a .next) 0 ⌝ }
+{
+    if basics::and(a.ok, a.fits) { a.next } else { 0 }
+}
+
+// Where the formula at `at` ends that has no quantifier and no instance; `scope` has the ranges of the
+// variables in reach. 0 where there is none.
+pub fn condition_end(body: &[u8], at: usize, scope: Tuple) -> usize
+    ensures { λ r. ⌜ r ≡ condition-end (now (body .entry)) at (items scope) ⌝ }
+{
+    let size = body.len();
+    if 256 < size {
+        return 0;
+    }
+    let signatures = [0u8; 41];
+    end_of(read_formula(body, at, size, counted(scope), 4, &signatures))
+}
+
+// Where as many terms in a row end as there are `ranges`, each of a range that is at most the one in its
+// place; 0 where there are none such.
+pub fn terms_end(body: &[u8], at: usize, scope: Tuple, ranges: Tuple) -> usize
+    ensures { λ r. ⌜ r ≡ terms-end (now (body .entry)) at (items scope) (items ranges) ⌝ }
+{
+    if 256 < body.len() {
+        return 0;
+    }
+    let known = counted(ranges);
+    let values = known.values;
+    let count = known.count as u8;
+    end_of(read_arguments(body, at, counted(scope), count, &values, 0, true))
 }

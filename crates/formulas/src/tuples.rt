@@ -1,6 +1,7 @@
 // Tuples of at most eight bytes: one more behind, and one of them.
 ghost use mathlib.Core.Path.{_≡_};
-ghost use lib.ListN.{getD};
+ghost use Prim.Native.Nat.{_≤_};
+ghost use lib.ListN.{length, getD};
 ghost use Rattle.formulas.specs.Tuples.{items, Pushes};
 use crate::Tuple;
 
@@ -26,4 +27,13 @@ pub fn item(tuple: Tuple, i: u8) -> u8
         return 0;
     }
     if j < 8 { tuple.values[j] } else { 0 }
+}
+
+// The same bytes, and no more counted than there are.
+pub(crate) fn counted(tuple: Tuple) -> Tuple
+    ensures { λ r. ⌜ (items r ≡ items tuple) × ((r .count ≡ length (items tuple)) × (r .count ≤ 8)) ⌝ }
+{
+    let values = tuple.values;
+    let count = basics::smaller(tuple.count, 8);
+    Tuple { values, count }
 }

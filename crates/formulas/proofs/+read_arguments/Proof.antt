@@ -16,7 +16,7 @@ use Rattle.formulas.proofs.+read_arguments.Lts-read_arguments as argume
 module _ (t : ℕ) where
   none-left : arguments.Need-returns (arguments-calls t) (arguments-at t) arguments-post
   none-left c =
-      let a = c .before .before .before .args in
+      let a = c .before .before .before .before .args in
       rw (c .result .ensures) (law.terms-none (c .before .if1 .taken)
       (no-arguments (a .fits) (a .signatures .now) (a .j) (items (a .scope)) (c .before .if1 .taken)))
 
@@ -29,10 +29,10 @@ module _ (t : ℕ) where
   one-more : arguments.Need-returns-3 (arguments-calls t) (arguments-at t) arguments-post
   one-more c =
       let element = c .before .before .before in
-      let first = element .before .before .before .before in
-      let a = first .before .before .before .args in
+      let first = element .before .before .before in
+      let a = first .before .before .before .before .args in
       law.terms-more (omega (arith, first .before .if1 .left)) (first .read-term .ensures)
-      (not-false _ (element .before .before .if2 .left)) (c .read-arguments .ensures)
+      (not-false _ (element .before .if2 .left)) (c .read-arguments .ensures)
       (λ x ts r. next-argument (a .fits) (a .signatures .now) (a .j) (items (a .scope)) (omega (arith, first .before .if1 .left))
       x ts r (c .before .and .ensures ∙ rw (element .element .ensures) refl))
 

@@ -16,7 +16,8 @@ too-many c = rw (c .result .ensures) (instance-no (c .before .before .element2 .
 
 an-instance : tie.Need-returns-2
 an-instance c =
-    let last = c .before .before in
+    let both = c .before .before in
+    let last = both .before in
     let few = last .before .before .before .before .before in
     let x = few .before .before in
     let start = x .before .before .before in
@@ -25,7 +26,7 @@ an-instance c =
     instance-read (few .before .element2 .ensures) (few .if1 .left) (x .wide .ensures .0 ∙ x .before .element .ensures)
     (rw (start .pre .1 .1) at (c .read-arguments .ensures))
     (λ ts long r. r ∙ rw (
-      c .before .and .ensures,
+      both .and .ensures,
       last .element4 .ensures,
       last .before .before .wide2 .ensures .0,
       last .before .before .before .element3 .ensures,
