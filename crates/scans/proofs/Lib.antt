@@ -1,0 +1,10 @@
+pub mod Spelled
+pub mod ScannedFormulas
+pub mod Skipping
+pub mod Sought
+pub mod ScannedItems
+pub mod PartEnds
+pub mod SummandFrames
+pub mod PlacesTold
+pub mod Placing
+pub mod Matching

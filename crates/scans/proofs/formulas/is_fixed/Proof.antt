@@ -1,0 +1,10 @@
+-- `scans::is_fixed` meets its contract.
+-- Each branch is a branch of `is-fixed`.
+use borrow.Author.Tests.{eq-eqb, ne-eqb}
+use Rattle.scans.specs.Formulas.{is-fixed}
+use Rattle.scans.proofs.formulas.is_fixed.Statement.{statement}
+use Rattle.scans.proofs.formulas.is_fixed.Tie as tie
+
+pub is-fixed-spec : {M : Type 1} → statement M
+unfolding is-fixed
+is-fixed-spec = tie.close (tie.spec (λ c. simp (eq-eqb _ _ (c .if1 .taken))) (λ c. simp (ne-eqb _ _ (c .if1 .left))))

@@ -1,0 +1,5 @@
+pub mod Items
+pub mod FixedPoints
+pub mod Formulas
+pub mod Summands
+pub mod Equations
