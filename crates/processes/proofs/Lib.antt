@@ -1,0 +1,12 @@
+pub mod CountedBytes
+pub mod Conditions
+pub mod FrameTests
+pub mod SummandRead
+pub mod OwnBytes
+pub mod Pending
+pub mod Rows
+pub mod Turning
+pub mod Walking
+pub mod Turns
+pub mod Laying
+pub mod Outcomes
