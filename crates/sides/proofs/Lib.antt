@@ -1,0 +1,11 @@
+pub mod EmittedLaws
+pub mod Quantifying
+pub mod ItemLaws
+pub mod StateLaws
+pub mod PartTurns
+pub mod VariablesTold
+pub mod Instancing
+pub mod Boxes
+pub mod Spots
+pub mod StepList
+pub mod SidesTold
