@@ -25,14 +25,14 @@ one-longer true c n l ls h = omega arith
 one-longer false c n l [] h = omega arith
 one-longer false c n l (k ∷ ls) h = omega arith
 
-lines-length : (s : List ℕ) → length (lines-of s) ≤ length s
+pub lines-length : (s : List ℕ) → length (lines-of s) ≤ length s
 unfolding lines-of
 lines-length [] = omega arith
 lines-length (c ∷ s) = one-longer (eqb c 0x0a) c (length s) (record { characters = []; ended = true }) (lines-of s)
     (lines-length s)
 
 -- ---- the numbers of lines and frames: 0, or from 2 to 8
-record Number (n : ℕ) : Type 0 where
+pub record Number (n : ℕ) : Type 0 where
   other : n ≡ 1 → ⊥
   small : n ≤ 8
 
@@ -56,7 +56,7 @@ frame-number n u f =
     (either (eqb (getD f 0 0) 3) no four))
 
 -- frames on lines from 1 to b
-abbrev Within : ℕ → List Frame → Type 0
+abbrev pub Within : ℕ → List Frame → Type 0
 Within b [] = Unit {0}
 Within b (f ∷ fs) = (1 ≤ f .line) × (f .line ≤ b) × Within b fs
 
@@ -104,10 +104,10 @@ module _ (b : ℕ) where
       (instances-named sigs (equations-in fs) _ (some-within 1 fs w) (start-named sigs (starts-in fs) u (some-within 2 fs w))))
 
   -- ---- frame by frame; they end at a line from 1 to b, perhaps refused
-  record Ends (n i : ℕ) : Type 0 where
+  pub record Ends (n i : ℕ) : Type 0 where
     number : Number n
     from : 1 ≤ i
-    to : i ≤ b
+    pub to : i ≤ b
 
   frames-named : (done fs : List Frame) (n i : ℕ) → Within b done → Within b fs → Ends n i
       → Named (frames-judged done fs (refused n i))
@@ -119,7 +119,7 @@ module _ (b : ℕ) where
       let more = frames-named (done ++ (f ∷ [])) fs n i (more-within done f w (v .0) (v .1)) (v .2) e in
       chosen (eqb after 0) more (omega arith)
 
-  lines-within : (i : ℕ) (ls : List Line) → 1 ≤ i → i + length ls ≤ b
+  pub lines-within : (i : ℕ) (ls : List Line) → 1 ≤ i → i + length ls ≤ b
       → let fs = frames-from i ls in Within b (fs .all) × Ends (fs .number) (fs .line)
   unfolding frames-from
   lines-within i [] l h = (tt, omega arith)

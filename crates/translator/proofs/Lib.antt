@@ -1,0 +1,4 @@
+pub mod Answered
+pub mod Built
+pub mod LineBound
+pub mod Shown
