@@ -12,9 +12,12 @@ extern "C" {
 /* The least length that `out` must have: no answer has more bytes. */
 #define DEVASHTOR_ROOM 7693
 
-/* The stack that a call takes at most, whatever the text, with what a thread's own start takes: a thread
-   that calls the checker needs no more than this. */
+/* The stack that a check takes at most, whatever the text, with what a thread's own start takes: a thread
+   that calls devashtor_check needs no more than this. */
 #define DEVASHTOR_STACK 98304
+
+/* The same for a thread that calls devashtor_translate. */
+#define DEVASHTOR_TRANSLATE_STACK 131072
 
 /* Checks the model in text[0 .. text_length) and writes into `out` what the checking program
    prints for that text, a refusal's line included. Gives the number of bytes written; the bytes
@@ -22,6 +25,23 @@ extern "C" {
    `out` stays untouched. Any bytes are a text. `text` and `out` must not overlap, and neither
    may be null, also where its length is 0. */
 size_t devashtor_check(const uint8_t *text, size_t text_length, uint8_t *out, size_t out_length);
+
+/* Functions that give a uint64_t give the length of what they have written, or the word of a refusal. These
+   tell which it is, and of a refusal its number and its line. */
+#define DEVASHTOR_REFUSED(r) ((int)((uint64_t)(r) >> 63))
+#define DEVASHTOR_NUMBER(r) ((unsigned)((uint64_t)(r) >> 32 & 0x7fffffff))
+#define DEVASHTOR_LINE(r) ((unsigned)((uint64_t)(r) & 0xffffffff))
+
+/* No translated text has more bytes, so a buffer of this length is never refused as too short. */
+#define DEVASHTOR_TRANSLATED 4117
+
+/* Translates the process and the formula in text[0 .. text_length) (docs/PROCESSES.md) into a model, writes its
+   text into `out` and gives the number of bytes written; the bytes of `out` after them stay as they were. The
+   model holds exactly when the process's start state satisfies the formula: devashtor_check tells.
+   On a refusal it gives 2^63 + number * 2^32 + line and `out` stays untouched; a buffer that is shorter than the
+   model's text is refusal 10. Any bytes are a text. `text` and `out` must not overlap, and neither may be null,
+   also where its length is 0. */
+uint64_t devashtor_translate(const uint8_t *text, size_t text_length, uint8_t *out, size_t out_length);
 
 #ifdef __cplusplus
 }

@@ -3,8 +3,10 @@
 -- THEOREMS: one reply for each input. Two replies that a promise allows are equal. (`devashtor_check`
 -- promises `Written`: its one reply is `one-writing`, in printing/specs/Promise.)
 use mathlib.Core.Path.{_≡_}
-use Prim.Native.Nat.{ℕ}
+use Prim.Native.Nat.{ℕ, _+_, _*_}
+use mathlib.Core.Bool.{cond}
 use mathlib.Core.List.{List}
+use lib.Dec.{eqb}
 use lib.ListN.{length}
 use Rattle.meaning.specs.OneReply.{one-reply}
 use Rattle.answers.specs.declared.Answer.{Answer}
@@ -12,6 +14,8 @@ use Rattle.answers.specs.Answers.{checked, table-after-check}
 use Rattle.checker.specs.declared.Record.{Record}
 use Rattle.checker.specs.declared.ReadAnswer.{ReadAnswer}
 use Rattle.checker.specs.Records.{read-answer, records-after-read, records-after-check}
+use Rattle.translator.specs.declared.Translated.{Translated}
+use Rattle.translator.specs.Answers.{translation-answer, buffer-after}
 
 -- reading the text t, lent `records`: it answers a and leaves `records-left`
 pub record Read (t : List ℕ) (records : List Record) (a : ReadAnswer) (records-left : List Record) : Type 0
@@ -25,6 +29,21 @@ pub record Checked (t : List ℕ) (records : List Record) (table : List ℕ) (a 
   pub answered : a ≡ checked t (length records) (length table)
   pub filled : records-left ≡ records-after-check t (length table) records
   pub listed : table-left ≡ table-after-check t (length records) table
+
+-- what C gets for a reply: how many bytes were written or, on a refusal, 2^63 + number * 2^32 + line
+unfoldable pub reply-word : Translated → ℕ
+reply-word r =
+    cond (eqb (r .number) 0) (r .length) (0x8000000000000000 + r .number * 0x100000000 + r .line)
+
+-- translating the text t into the buffer `out`, for C: it gives r and leaves `left`
+pub record TranslatesForC (t out : List ℕ) (r : ℕ) (left : List ℕ) : Type 0 where
+  pub answered : r ≡ reply-word (translation-answer t (length out))
+  pub written : left ≡ buffer-after t out
+
+pub one-translation-for-c : (t out : List ℕ) {r s : ℕ} {xs ys : List ℕ}
+    → TranslatesForC t out r xs → TranslatesForC t out s ys → (r ≡ s) × (xs ≡ ys)
+one-translation-for-c t out p q =
+    (one-reply (p .answered) (q .answered), one-reply (p .written) (q .written))
 
 pub one-reading : (t : List ℕ) (records : List Record) {a b : ReadAnswer} {xs ys : List Record}
     → Read t records a xs → Read t records b ys → (a ≡ b) × (xs ≡ ys)

@@ -9,9 +9,12 @@ ghost use Rattle.checker.specs.Promises.{Read, Checked};
 ghost use Rattle.printing.specs.Promise.{Written};
 ghost use Rattle.checker.specs.Prepared.{blank, overwritten, prepared, read-from};
 ghost use Rattle.checker.specs.Prepared.{ReadPrepared, CheckPrepared};
+ghost use Rattle.checker.specs.Promises.{reply-word, TranslatesForC};
 use answers::Answer;
 use formulas::Equation;
 use reading::Model;
+pub use translator::Translated;
+pub use translator::translate;
 
 // An equation as reading lends it: absent ranges are 1; place is that of the body's first digit in the text,
 // length the body's bytes.
@@ -63,6 +66,27 @@ pub extern "C" fn devashtor_check(text: &[u8], out: &mut [u8]) -> usize
     ensures { λ r. ⌜ Written (now (text .entry)) (now (out .entry)) r (now (out .exit)) ⌝ }
 {
     printing::print_answer(text, out)
+}
+
+// For the image builder, in C: writes the text of the model of a process and a formula into the lent buffer
+// and gives how many bytes it has, or, on a refusal, 2^63 + number * 2^32 + line; then nothing is written.
+#[no_mangle]
+pub extern "C" fn devashtor_translate(text: &[u8], out: &mut [u8]) -> u64
+    ensures { λ r. ⌜ TranslatesForC (now (text .entry)) (now (out .entry)) r (now (out .exit)) ⌝ }
+{
+    reply_word(translator::translate(text, out))
+}
+
+fn reply_word(r: Translated) -> u64
+    requires { ⌜ r .line ≤ 32769 ⌝ }
+    ensures { λ w. ⌜ w ≡ reply-word r ⌝ }
+{
+    if r.number == 0 {
+        return r.length as u64;
+    }
+    let number = r.number as u64;
+    let line = r.line as u64;
+    0x8000000000000000 + number * 0x100000000 + line
 }
 
 // Writes the records that are prepared: the one place where lent records are written.

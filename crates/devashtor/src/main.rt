@@ -1,12 +1,50 @@
-// The checking program: a model on standard input, the lines of its answer on standard output.
+// The program: a text on standard input, what the command prints for it on standard output. With no command,
+// or with `check`, the text is a model, which is checked; with `translate` a process and a formula. With any
+// other word nothing is printed.
 ghost use mathlib.Core.Path.{_≡_};
 ghost use lib.ListN.{length};
 
 fn main() {
     let mut text = text_buffer();
     let read = io::read_full(libc::STDIN_FILENO, &mut text);
+    let mut name = [0u8; 16];
+    let size = os::arg(1, &mut name);
+    let command = &name[..size];
+    if is_word(command, b"translate") {
+        translate(&text[..read]);
+    } else if basics::and(size == 0, os::arg_count() <= 1) {
+        check(&text[..read]);
+    } else if is_word(command, b"check") {
+        check(&text[..read]);
+    }
+}
+
+// Whether some bytes are a word.
+fn is_word(bytes: &[u8], word: &[u8]) -> bool {
+    if bytes.len() != word.len() {
+        return false;
+    }
+    let mut i: usize = 0;
+    while i < bytes.len() {
+        if bytes[i] != word[i] {
+            return false;
+        }
+        i += 1;
+    }
+    true
+}
+
+// Prints the lines of a model's answer.
+fn check(text: &[u8]) {
     let mut out = out_buffer();
-    let written = checker::devashtor_check(&text[..read], &mut out);
+    let written = checker::devashtor_check(text, &mut out);
+    io::write_all(libc::STDOUT_FILENO, &out[..written]);
+}
+
+// Prints the text of the model of a process and a formula, or the refusal.
+fn translate(text: &[u8]) {
+    let mut out = model_buffer();
+    let written = translator::print_translation(text, &mut out);
     io::write_all(libc::STDOUT_FILENO, &out[..written]);
 }
 
@@ -22,4 +60,11 @@ fn out_buffer() -> [u8; 7693]
     ensures { λ r. ⌜ 7693 ≡ length r ⌝ }
 {
     [0; 7693]
+}
+
+// As many bytes as the longest text of a model takes.
+fn model_buffer() -> [u8; 4117]
+    ensures { λ r. ⌜ 4117 ≡ length r ⌝ }
+{
+    [0; 4117]
 }

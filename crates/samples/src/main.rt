@@ -1,6 +1,7 @@
-// Checks many texts and prints what the checking program prints for each, and an empty line after it.
-// On standard input each text comes after its length: eight hexadecimal digits, of which the last four count,
-// and 0a.
+// Checks or translates many texts and prints what the program prints for each, and an empty line after it.
+// On standard input each text comes after its head, eight hexadecimal digits and 0a: the first two are 00 for
+// a model, which is checked, and 01 for a process and a formula, which are translated; the last four are the
+// length.
 // README.md beside this folder says what the texts are and how the expected output was made.
 ghost use mathlib.Core.Path.{_≡_};
 ghost use lib.ListN.{length};
@@ -21,10 +22,30 @@ fn answer(buffer: &mut [u8]) {
     io::write_all(libc::STDOUT_FILENO, b"\n");
 }
 
-// Reads a text of n bytes, or of as many as the buffer holds.
-fn answer_first(buffer: &mut [u8], n: usize) {
+// As many bytes as the longest text of a model takes.
+fn model_buffer() -> [u8; 4117]
+    ensures { λ r. ⌜ 4117 ≡ length r ⌝ }
+{
+    [0; 4117]
+}
+
+// Reads a text as long as the buffer and prints its translation.
+fn translation(buffer: &mut [u8]) {
+    let n = io::read_full(libc::STDIN_FILENO, buffer);
+    let mut out = model_buffer();
+    let written = translator::print_translation(&buffer[..n], &mut out);
+    io::write_all(libc::STDOUT_FILENO, &out[..written]);
+    io::write_all(libc::STDOUT_FILENO, b"\n");
+}
+
+// Reads a text of n bytes, or of as many as the buffer holds, and checks or translates it.
+fn answer_first(buffer: &mut [u8], n: usize, kind: u8) {
     let m = basics::smaller(n, buffer.len());
-    answer(&mut buffer[..m]);
+    if kind == 1 {
+        translation(&mut buffer[..m]);
+    } else {
+        answer(&mut buffer[..m]);
+    }
 }
 
 // One text; false where there is none left.
@@ -38,7 +59,7 @@ fn turn() -> bool {
     let low = digits::byte(&head, 3);
     let size = basics::wide(high) * 256 + basics::wide(low);
     let mut buffer = io::large_buffer();
-    answer_first(&mut buffer, size);
+    answer_first(&mut buffer, size, digits::byte(&head, 0));
     true
 }
 

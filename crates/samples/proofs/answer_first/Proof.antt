@@ -11,5 +11,6 @@ pub answer-first-spec : {M : Type 1} → statement M
 answer-first-spec =
     tie.close
     (tie.spec (λ c κs. search needs) (λ c. search needs)
-    (λ c. sym (length-take-le _ _ (omega (arith, c .before .smaller .ensures)))) (λ c κs. search needs) (λ c. search needs)
-    (λ c. search needs))
+    (λ c. sym (length-take-le _ _ (omega (arith, c .before .before .smaller .ensures)))) (λ c κs. search needs)
+    (λ c. search needs) (λ c. sym (length-take-le _ _ (omega (arith, c .before .before .smaller .ensures))))
+    (λ c κs. search needs) (λ c. search needs) (λ c. search needs) (λ c. search needs) (λ c. search needs))

@@ -1,15 +1,14 @@
--- `devashtor::main` meets its contract.
+-- `devashtor::check` is safe.
 -- What is written lies within the buffer, so that it can be lent to the write.
 use borrow.Author.Needs.{needs}
 use Rattle.printing.proofs.Answered.{lendable}
-use Rattle.devashtor.proofs.main.Statement.{statement}
-use Rattle.devashtor.proofs.main.Tie as tie
+use Rattle.devashtor.proofs.check.Statement.{statement}
+use Rattle.devashtor.proofs.check.Tie as tie
 
-pub main-spec : {M : Type 1} → statement M
-main-spec =
+pub check-spec : {M : Type 1} → statement M
+check-spec =
     tie.close
-    (tie.spec (λ c κs. search needs) (λ c. search needs) (λ c κs. search needs) (λ c κs. search needs) (λ c. search needs)
-    (λ c. search needs) (λ c. search needs) (λ c κs. search needs)
+    (tie.spec (λ c κs. search needs) (λ c. search needs) (λ c κs. search needs)
     (λ c. lendable (c .before .devashtor-check .ensures) (c .before .devashtor-check .kept .1 .0) .0)
     (λ c. lendable (c .before .before .devashtor-check .ensures) (c .before .before .devashtor-check .kept .1 .0) .1)
     (λ c κs. search needs) (λ c. search needs))

@@ -1,0 +1,14 @@
+-- `samples::translation` is safe.
+-- What is written lies within the buffer, so that it can be lent to the write.
+use Rattle.translator.proofs.Shown.{lendable}
+use borrow.Author.Needs.{needs}
+use Rattle.samples.proofs.translation.Statement.{statement}
+use Rattle.samples.proofs.translation.Tie as tie
+
+pub translation-spec : {M : Type 1} → statement M
+translation-spec =
+    tie.close
+    (tie.spec (λ c κs. search needs) (λ c κs. search needs) (λ c. search needs) (λ c. search needs) (λ c. search needs)
+    (λ c κs. search needs) (λ c. lendable (c .before .print-translation .ensures) (c .before .print-translation .kept .1 .0) .0)
+    (λ c. lendable (c .before .before .print-translation .ensures) (c .before .before .print-translation .kept .1 .0) .1)
+    (λ c κs. search needs) (λ c. search needs) (λ c κs. search needs) (λ c. search needs) (λ c. search needs))
