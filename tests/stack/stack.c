@@ -1,7 +1,8 @@
-/* Checks the texts that take the most stack in a thread that has just DEVASHTOR_STACK bytes of it, and
-   says how much was used: bodies as deep as a frame of 256 bytes allows, that are read and that are
-   refused. What each must answer is known from how it is made: the constants around its one instance, or
-   around its one constant, change nothing. The first wrong answer, or more stack than stated, ends it. */
+/* Checks and translates the texts that take the most stack in a thread that has just DEVASHTOR_STACK bytes of it, or
+   DEVASHTOR_TRANSLATE_STACK, and says how much was used: bodies, conditions, terms and formulas as deep as a frame of 256 bytes allows, that
+   are read and that are refused. What each must answer is known from how it is made: the constants around its one
+   instance, or around its one constant, change nothing, and a translation keeps them. The first wrong answer, or
+   more stack than stated, ends it. */
 #define _DEFAULT_SOURCE
 #include "devashtor.h"
 
@@ -17,11 +18,19 @@ static const char fails[] = "040000\n050000010000\n", holds[] = "040001\n0501000
 
 static char text[40000], body[600];
 static uint8_t answer[DEVASHTOR_ROOM];
-static size_t length, written, most;
+static size_t length, written, most_checked, most_translated;
 
 static void *check(void *nothing)
 {
     written = devashtor_check((const uint8_t *)text, length, answer, sizeof answer);
+    return nothing;
+}
+
+static uint64_t word;
+
+static void *translate(void *nothing)
+{
+    word = devashtor_translate((const uint8_t *)text, length, answer, sizeof answer);
     return nothing;
 }
 
@@ -32,25 +41,31 @@ static void trouble(const char *what)
 }
 
 /* The text in a thread with exactly so much stack, with memory below it that may not be touched. */
-static void run(const char *name, const char *expected)
+static void run(void *(*job)(void *), const char *name, const char *expected)
 {
     static uint8_t *area;
-    size_t fence = 64 * 1024, used = DEVASHTOR_STACK;
+    size_t fence = 64 * 1024, stack = job == check ? DEVASHTOR_STACK : DEVASHTOR_TRANSLATE_STACK, used = stack;
+    size_t *most = job == check ? &most_checked : &most_translated;
     pthread_attr_t attributes;
     pthread_t thread;
     if (area == NULL) {
-        area = mmap(NULL, fence + DEVASHTOR_STACK, PROT_READ | PROT_WRITE, MAP_PRIVATE | MAP_ANONYMOUS, -1, 0);
+        area = mmap(NULL, fence + DEVASHTOR_TRANSLATE_STACK, PROT_READ | PROT_WRITE, MAP_PRIVATE | MAP_ANONYMOUS, -1, 0);
         if (area == MAP_FAILED || mprotect(area, fence, PROT_NONE) != 0)
             trouble("memory");
     }
-    memset(area + fence, PAINT, DEVASHTOR_STACK);
-    if (pthread_attr_init(&attributes) != 0 || pthread_attr_setstack(&attributes, area + fence, DEVASHTOR_STACK) != 0 ||
-        pthread_create(&thread, &attributes, check, NULL) != 0 || pthread_join(thread, NULL) != 0)
+    memset(area + fence, PAINT, stack);
+    if (pthread_attr_init(&attributes) != 0 || pthread_attr_setstack(&attributes, area + fence, stack) != 0 ||
+        pthread_create(&thread, &attributes, job, NULL) != 0 || pthread_join(thread, NULL) != 0)
         trouble("thread");
-    while (used > 0 && area[fence + DEVASHTOR_STACK - used] == PAINT)
+    while (used > 0 && area[fence + stack - used] == PAINT)
         used--;
-    if (used > most)
-        most = used;
+    if (used > *most)
+        *most = used;
+    if (job == translate) {
+        written = (size_t)word;
+        if (DEVASHTOR_REFUSED(word))
+            written = (size_t)sprintf((char *)answer, "06%02x%04x\n", DEVASHTOR_NUMBER(word), DEVASHTOR_LINE(word));
+    }
     if (written != strlen(expected) || memcmp(answer, expected, written) != 0) {
         printf("stack.c: a wrong answer for %s:\n%.*s", name, (int)written, answer);
         exit(1);
@@ -62,7 +77,7 @@ static void run(const char *name, const char *expected)
 static void model(const char *name, const char *expected)
 {
     length = (size_t)sprintf(text, "010000%s\n0200\n", body);
-    run(name, expected);
+    run(check, name, expected);
 }
 
 static void add(const char *bytes)
@@ -70,9 +85,11 @@ static void add(const char *bytes)
     strcat(body, bytes);
 }
 
+static int spare; /* bytes that a body is to leave free */
+
 static int left(const char *leaf) /* how many bytes a body still has room for, with this leaf in it */
 {
-    return MOST - (int)(strlen(body) + strlen(leaf)) / 2;
+    return MOST - spare - (int)(strlen(body) + strlen(leaf)) / 2;
 }
 
 /* Joins as deep as there is room, around the leaf: `and` and, where they change, `or` in turn; the other
@@ -115,6 +132,83 @@ static void terms(const char *name, const char *before, const char *after, int f
     model(name, expected);
 }
 
+/* ---- processes and formulas ------------------------------------------------------------------------ */
+
+/* A text that has the body in it, and a model that must come out and has the body in it too. */
+static void process(const char *name, const char *before, const char *after, const char *model_before, const char *model_after)
+{
+    char expected[1200];
+    length = (size_t)sprintf(text, "%s%s%s", before, body, after);
+    sprintf(expected, "%s%s%s", model_before, body, model_after);
+    run(translate, name, expected);
+}
+
+static void refused_process(const char *name, const char *before, const char *after, const char *expected)
+{
+    length = (size_t)sprintf(text, "%s%s%s", before, body, after);
+    run(translate, name, expected);
+}
+
+static void times(int n, const char *bytes)
+{
+    for (body[0] = 0; n > 0; n--)
+        add(bytes);
+}
+
+static void deep_joins(int form)
+{
+    body[0] = 0;
+    spare = 0;
+    joins("11", form % 2, form / 2);
+    process("a formula of joins", "0900\n0833", "\n", "010100", "\n0200\n");
+    length = (size_t)sprintf(text, "0900\n0700%s00\n0811\n", body);
+    run(translate, "a condition of joins, not used", "01010011\n0200\n");
+    body[0] = 0;
+    spare = 2;
+    joins("11", form % 2, form / 2);
+    process("a condition of joins, in a diamond", "0900\n0700", "00\n0833311111\n", "01010012", "11\n0200\n");
+    spare = 0;
+}
+
+static void processes(void)
+{
+    char expected[700];
+    for (int form = 0; form < 4; form++)
+        deep_joins(form);
+    times(61, "2210");
+    for (int i = 0; i < 62; i++)
+        add("2000");
+    process("a term, in a box", "09011000\n07001100", "\n083330113400\n", "0101011013101a0001", "\n020000\n");
+    times(61, "22102000");
+    add("2000");
+    process("a term, last operands, in a box", "09011000\n07001100", "\n083330113400\n", "0101011013101a0001", "\n020000\n");
+
+    times(119, "3011");
+    length = (size_t)sprintf(text, "09041010101000010203\n070011002101210221032100\n0832%s3400\n", body);
+    times(119, "1310"); /* what each box over a step that may always be done becomes */
+    sprintf(expected, "01000410101010%s1a00042103210021012102\n020000010203\n", body); /* 119 places further, of four */
+    run(translate, "119 boxes, variables that go back through all", expected);
+
+    times(123, "3011");
+    length = (size_t)sprintf(text, "09011001\n070011002100\n0832%s3400\n", body);
+    times(123, "1310");
+    sprintf(expected, "01000110%s1a00012100\n020001\n", body);
+    run(translate, "123 boxes, a variable that goes back through all", expected);
+
+    times(124, "3011");
+    refused_process("124 boxes, terms that double", "09011001\n07001100221021002100\n0832", "3400\n", "060f0000\n");
+    refused_process("124 boxes, no formula in them", "0900\n07001100\n0832", "\n", "060e0003\n");
+    times(126, "1211");
+    refused_process("joins without end", "0900\n0833", "\n", "060e0002\n");
+    times(253, "33");
+    refused_process("253 fixed points", "0900\n08", "3400\n", "060f0000\n");
+    refused_process("fixed points without end", "0900\n08", "\n", "060e0002\n");
+    times(253, "12");
+    refused_process("a condition without end", "0900\n0700", "\n0811\n", "060e0002\n");
+    times(126, "2210");
+    refused_process("a term without end", "09011000\n07001100", "\n0811\n", "060e0002\n");
+}
+
 int main(void)
 {
     deep("no quantifier, an instance", "", "1a0000", fails);
@@ -152,8 +246,10 @@ int main(void)
         length += (size_t)sprintf(text + length, "010%d00%s\n", e % 2, body);
     }
     length += (size_t)sprintf(text + length, "0200\n");
-    run("eight equations", "040000\n040100\n040200\n040300\n040400\n040500\n040600\n040700\n050000080000\n");
+    run(check, "eight equations", "040000\n040100\n040200\n040300\n040400\n040500\n040600\n040700\n050000080000\n");
 
-    printf("stack.c: at most %zu of %d bytes\n", most, DEVASHTOR_STACK);
+    processes();
+    printf("stack.c: at most %zu of %d bytes to check, %zu of %d to translate\n", most_checked, DEVASHTOR_STACK,
+           most_translated, DEVASHTOR_TRANSLATE_STACK);
     return 0;
 }

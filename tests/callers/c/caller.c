@@ -7,7 +7,6 @@
 
    Text and buffer both end where memory may not be touched, so that a read or a write past
    either ends the run at once. */
-#define _DEFAULT_SOURCE
 #include "devashtor.h"
 
 #include "../../reference/reference.h"
@@ -16,20 +15,8 @@
 #include <stdio.h>
 #include <stdlib.h>
 #include <string.h>
-#include <sys/mman.h>
 
-enum { AREA = 128 * 1024, FENCE = 64 * 1024, MOST_STEPS = 200000 };
-
-/* The end of AREA bytes of memory, with forbidden memory behind it. */
-static uint8_t *fenced_end(void)
-{
-    uint8_t *area = mmap(NULL, AREA + FENCE, PROT_READ | PROT_WRITE, MAP_PRIVATE | MAP_ANONYMOUS, -1, 0);
-    if (area == MAP_FAILED || mprotect(area + AREA, FENCE, PROT_NONE) != 0) {
-        perror("memory");
-        exit(2);
-    }
-    return area + AREA;
-}
+enum { MOST_STEPS = 200000 };
 
 static uint8_t *text_end, *out_end;
 static uint8_t expected[REFERENCE_MOST];
@@ -78,30 +65,24 @@ static void call(const uint8_t *text, size_t length, size_t buffer)
 
 /* ---- texts with known answers --------------------------------------------------------------- */
 
-static uint8_t *whole_file(const char *name, size_t *length)
-{
-    FILE *file = fopen(name, "rb");
-    uint8_t *bytes = malloc(1 << 22);
-    if (file == NULL || bytes == NULL) {
-        perror(name);
-        exit(2);
-    }
-    *length = fread(bytes, 1, 1 << 22, file);
-    fclose(file);
-    return bytes;
-}
-
-/* Each text is preceded by its length, each answer is followed by an empty line. */
+/* Each text is preceded by its head, each answer is followed by an empty line; processes are left to translate.c. */
 static int known_samples(const char *texts_name, const char *answers_name)
 {
     static uint8_t printed[REFERENCE_MOST];
     size_t texts_length, answers_length, at = 0, from = 0, number = 0;
-    uint8_t *texts = whole_file(texts_name, &texts_length), *answers = whole_file(answers_name, &answers_length);
+    uint8_t *texts = texts_of_file(texts_name, &texts_length);
+    uint8_t *answers = texts_of_file(answers_name, &answers_length);
     while (at < texts_length) {
-        size_t length = strtoul((const char *)texts + at, NULL, 16), end = from;
+        unsigned long head = strtoul((const char *)texts + at, NULL, 16);
+        size_t length = head & 0xffff, end = from;
         const uint8_t *text = texts + at + 9;
         while (end + 1 < answers_length && (answers[end] != '\n' || answers[end + 1] != '\n'))
             end++;
+        if (head >> 24 != 0) {
+            at += 9 + length;
+            from = end + 2;
+            continue;
+        }
         expected_length = end + 1 - from;
         memcpy(expected, answers + from, expected_length);
         if (reference_print(text, length, printed) != expected_length || memcmp(printed, expected, expected_length) != 0)
@@ -123,8 +104,8 @@ int main(int arguments, char **argument)
     unsigned long wanted = arguments > 1 ? strtoul(argument[1], NULL, 10) : 10000;
     unsigned long refusals[10] = {0}, holds = 0, fails = 0, defined = 0, reached = 0, full = 0;
     size_t length;
-    text_end = fenced_end();
-    out_end = fenced_end();
+    text_end = texts_fenced_end();
+    out_end = texts_fenced_end();
     if (arguments == 4 && strcmp(argument[1], "samples") == 0)
         return known_samples(argument[2], argument[3]);
     texts_seed(arguments > 2 ? strtoul(argument[2], NULL, 10) : 1);

@@ -1,7 +1,11 @@
+#define _DEFAULT_SOURCE
 #include "texts.h"
 
 #include <stdbool.h>
+#include <stdio.h>
+#include <stdlib.h>
 #include <string.h>
+#include <sys/mman.h>
 
 static uint64_t state;
 
@@ -66,6 +70,13 @@ static void put_head(unsigned e)
 
 /* ---- terms and formulas, by chance ----------------------------------------------------------- */
 
+static bool slipping; /* a text in which a byte may be just outside its limits */
+
+static unsigned slip(unsigned right, unsigned wrong)
+{
+    return slipping && chance(3) ? wrong : right;
+}
+
 static unsigned scope[8], variables, quantifiers; /* the ranges of the variables in reach */
 
 /* A term whose range is at most `most`. */
@@ -77,15 +88,15 @@ static void put_term(unsigned most, unsigned depth)
             fitting[fits++] = i;
     if (depth > 0 && chance(40)) {
         put(0x22 + chance(35));
-        put(chance(70) ? most : between(1, most));
+        put(slip(slip(chance(70) ? most : between(1, most), 17), 0));
         put_term(16, depth - 1);
         put_term(16, depth - 1);
     } else if (fits > 0 && chance(75)) {
         put(0x21);
-        put(fitting[texts_below(fits)]);
+        put(slip(fitting[texts_below(fits)], variables));
     } else {
         put(0x20);
-        put(texts_below(most));
+        put(slip(texts_below(most), 16));
     }
 }
 
@@ -360,10 +371,10 @@ static size_t noise(uint8_t *text, const char *characters, unsigned kinds, unsig
     return length;
 }
 
-/* A model filled up with notes to about the longest text there may be. */
-static size_t filled(uint8_t *text)
+/* The text filled up with notes to about the longest that there may be. */
+static size_t filled(uint8_t *text, size_t length)
 {
-    size_t length = model(text), aim = 32768 + texts_below(3) - 1;
+    size_t aim = 32768 + texts_below(3) - 1;
     if (chance(20))
         aim = 32768 + texts_below(7000);
     while (length + 513 < aim) {
@@ -385,7 +396,7 @@ size_t texts_next(uint8_t *text)
     unsigned kind = texts_below(1000);
     size_t length;
     if (kind < 6)
-        return filled(text);
+        return filled(text, model(text));
     if (kind < 12)
         return noise(text, "0123456789abcdef0123\n", 21, 40);
     if (kind < 18)
@@ -400,4 +411,293 @@ size_t texts_next(uint8_t *text)
     for (unsigned times = between(1, 3); times > 0; times--)
         length = damage(text, length);
     return length;
+}
+
+/* ---- processes with a formula -------------------------------------------------------------------- */
+
+static unsigned parameters, ranges[4], summands, actions; /* of the process that is being made */
+
+static size_t add_parameters(uint8_t *text, size_t length)
+{
+    frame_length = 0;
+    put(9);
+    put(parameters);
+    for (unsigned i = 0; i < parameters; i++)
+        put(slip(slip(ranges[i], 17), 0));
+    for (unsigned i = 0; i < parameters; i++)
+        put(slip(texts_below(ranges[i]), ranges[i]));
+    return add_line(text, length);
+}
+
+static void put_condition(unsigned depth)
+{
+    unsigned kind = texts_below(100);
+    if (kind < 35) {
+        put(slip(0x10 + chance(90), 0x1a));
+    } else if (depth > 0 && kind < 55) {
+        put(0x12 + chance(60));
+        put_condition(depth - 1);
+        put_condition(depth - 1);
+    } else {
+        put(0x16 + texts_below(4));
+        put_term(16, chance(20));
+        put_term(16, chance(20));
+    }
+}
+
+/* A summand with this number of own variables; `plain`: its condition is true and it changes one parameter. */
+static size_t add_summand(uint8_t *text, size_t length, unsigned own, bool plain)
+{
+    unsigned changed = texts_below(4);
+    frame_length = 0;
+    put(7);
+    put(own);
+    memcpy(scope, ranges, sizeof ranges);
+    for (variables = parameters; variables < parameters + own; variables++)
+        put(slip(slip(scope[variables] = between(1, chance(90) ? 3 : 16), 17), 0));
+    if (plain)
+        put(0x11);
+    else
+        put_condition(2);
+    put(slip(texts_below(actions), 16));
+    for (unsigned i = 0; i < parameters; i++) {
+        if (i != changed && chance(plain ? 100 : 60)) {
+            put(0x21);
+            put(i);
+        } else if (chance(60)) { /* further on from where it is */
+            put(0x22 + chance(20));
+            put(ranges[i]);
+            put(0x21);
+            put(i);
+            put_term(16, 0);
+        } else {
+            put_term(ranges[i], chance(60));
+        }
+    }
+    return add_line(text, length);
+}
+
+static unsigned points, around[64], arounds; /* fixed points so far, and those around the place */
+
+static void put_actions(void)
+{
+    unsigned kind = texts_below(10);
+    put(slip(slip(kind < 5 ? 0x11 : kind < 8 ? 0x36 : 0x35, 0x34), 0x37));
+    if (kind >= 5)
+        put(slip(texts_below(actions + chance(10)), 16));
+}
+
+static void put_step(void)
+{
+    put(0x30 + texts_below(2));
+    put_actions();
+}
+
+/* The fixed point whose body comes next; mostly its variable stands behind a step in it. */
+static void put_fixed_point(void)
+{
+    put(0x32 + texts_below(2));
+    around[arounds++] = points++;
+    if (chance(70)) {
+        put(0x12 + texts_below(2));
+        put_step();
+        put(0x34);
+        put(points - 1);
+    }
+}
+
+static void put_modal(unsigned depth, unsigned most_points)
+{
+    unsigned kind = texts_below(100);
+    if (depth == 0 || kind < 2) {
+        if (slipping && points > 0 && chance(20)) { /* a fixed point that may be over, or still to come */
+            put(0x34);
+            put(texts_below(points + 1));
+        } else if (arounds > 0 && chance(85)) {
+            put(0x34);
+            put(around[texts_below(arounds)]);
+        } else {
+            put(slip(0x10 + texts_below(2), 0x14));
+        }
+    } else if (kind < 30) {
+        put(0x12 + texts_below(2));
+        put_modal(depth - 1, most_points);
+        put_modal(depth - 1, most_points);
+    } else if (kind < 70 || points >= most_points) {
+        put_step();
+        put_modal(depth - 1, most_points);
+    } else {
+        put_fixed_point();
+        put_modal(depth - 1, most_points);
+        arounds--;
+    }
+}
+
+static size_t add_modal(uint8_t *text, size_t length, unsigned depth, unsigned most_points)
+{
+    do {
+        frame_length = points = arounds = 0;
+        put(8);
+        if (chance(75))
+            put_fixed_point();
+        put_modal(depth, most_points);
+    } while (frame_length > 256);
+    return add_line(text, length);
+}
+
+static void plan_process(unsigned most_parameters, unsigned most_range)
+{
+    parameters = between(chance(85), most_parameters);
+    for (unsigned i = 0; i < parameters; i++)
+        ranges[i] = between(1 + chance(85), most_range);
+    actions = between(1, 4);
+}
+
+static size_t process_by_chance(uint8_t *text)
+{
+    bool large = chance(15);
+    size_t length = 0;
+    plan_process(large ? 4 : 3, chance(85) ? 4 : 16);
+    summands = large ? texts_below(18) : between(1, 4) - chance(5);
+    if (chance(15))
+        length = add_note(text, length);
+    length = add_parameters(text, length);
+    for (unsigned i = 0; i < summands; i++) {
+        length = add_summand(text, length, chance(60) ? 0 : texts_below(chance(90) ? 3 : 5), false);
+        if (chance(5))
+            length = add_note(text, length);
+    }
+    length = add_modal(text, length, between(1, large ? 6 : 4), large ? 12 : 6);
+    if (slip(0, 1))
+        length = add_summand(text, length, 0, true);
+    while (chance(10))
+        length = add_note(text, length);
+    return length;
+}
+
+/* Boxes in boxes over one summand that changes little, around a chain of `and` whose length brings the frame of
+   the equation near its 256 bytes; or so many of them that quantifiers run out. */
+static size_t process_near_a_limit(uint8_t *text)
+{
+    unsigned own = chance(50) ? 0 : between(1, 4), boxes = own == 0 ? between(1, 6) : 4 / own + chance(50);
+    size_t length;
+    plan_process(4, 4);
+    actions = 1;
+    length = add_parameters(text, 0);
+    length = add_summand(text, length, own, true);
+    frame_length = 0;
+    put(8);
+    if (chance(70))
+        put(0x32 + texts_below(2));
+    for (unsigned i = 0; i < boxes; i++) {
+        put(0x30 + texts_below(2));
+        put(0x11);
+    }
+    if (own == 0) { /* a box adds the join and the constant: 3 + parameters + 2 * boxes + 2 * joins + 1 bytes */
+        unsigned joins = (252 - parameters - 2 * boxes) / 2 + texts_below(4) - 1;
+        for (unsigned i = 0; i < joins; i++) {
+            put(0x12 + texts_below(2));
+            put(0x10 + texts_below(2));
+        }
+    }
+    put(0x10 + texts_below(2));
+    return add_line(text, length);
+}
+
+/* Nearly as many fixed points as there may be equations, or one too many. */
+static size_t process_of_many_points(uint8_t *text)
+{
+    unsigned wanted = between(6, 9);
+    size_t length;
+    plan_process(2, 3);
+    length = add_parameters(text, 0);
+    length = add_summand(text, length, texts_below(2), chance(50));
+    frame_length = 0;
+    put(8);
+    if (chance(50))
+        put_step();
+    for (unsigned i = 0; i < wanted; i++) {
+        put(0x32 + texts_below(2));
+        if (i + 1 < wanted && chance(30)) {
+            put(0x12 + texts_below(2));
+            put(0x34);
+            put(texts_below(i + 1));
+        }
+        if (chance(30))
+            put_step();
+    }
+    put(0x34);
+    put(texts_below(wanted));
+    return add_line(text, length);
+}
+
+/* Sixteen summands, or one too many. */
+static size_t process_of_many_summands(uint8_t *text)
+{
+    size_t length;
+    plan_process(1, 3);
+    actions = 15;
+    length = add_parameters(text, 0);
+    for (unsigned i = between(15, 17); i > 0; i--)
+        length = add_summand(text, length, chance(10), true);
+    return add_modal(text, length, between(1, 3), 3);
+}
+
+static size_t process(uint8_t *text)
+{
+    unsigned kind = texts_below(100);
+    slipping = chance(25);
+    if (kind < 82)
+        return process_by_chance(text);
+    if (kind < 91)
+        return process_near_a_limit(text);
+    return kind < 96 ? process_of_many_points(text) : process_of_many_summands(text);
+}
+
+size_t texts_next_process(uint8_t *text)
+{
+    unsigned kind = texts_below(1000);
+    size_t length;
+    if (kind < 40)
+        return filled(text, process(text));
+    if (kind < 46)
+        return noise(text, "0123456789abcdef0123\n", 21, 40);
+    if (kind < 52)
+        return noise(text, "0307080900111\n", 14, 400);
+    if (kind < 56)
+        return noise(text, NULL, 0, kind < 54 ? 40000 : 60);
+    if (kind < 58)
+        return 0;
+    length = process(text);
+    if (kind < 560)
+        return length;
+    for (unsigned times = between(1, 3); times > 0; times--)
+        length = damage(text, length);
+    return length;
+}
+
+/* ---- where texts are put ----------------------------------------------------------------------------- */
+
+uint8_t *texts_fenced_end(void)
+{
+    enum { FENCE = 64 * 1024 };
+    uint8_t *area = mmap(NULL, AREA_MOST + FENCE, PROT_READ | PROT_WRITE, MAP_PRIVATE | MAP_ANONYMOUS, -1, 0);
+    if (area == MAP_FAILED || mprotect(area + AREA_MOST, FENCE, PROT_NONE) != 0) {
+        perror("memory");
+        exit(2);
+    }
+    return area + AREA_MOST;
+}
+
+uint8_t *texts_of_file(const char *name, size_t *length)
+{
+    FILE *file = fopen(name, "rb");
+    size_t most = 1 << 24;
+    uint8_t *bytes = malloc(most);
+    if (file == NULL || bytes == NULL || (*length = fread(bytes, 1, most, file)) == most) {
+        perror(name);
+        exit(2);
+    }
+    fclose(file);
+    return bytes;
 }

@@ -1,0 +1,212 @@
+/* Calls the archive's translation from C with thousands of processes and formulas, and compares the word that
+   comes back and every byte of the buffer with a plain translator that shares no code with it. Where a model
+   comes out, it is checked, and its verdict compared with the formula's own meaning over the process's states.
+   The first difference ends the run with status 1.
+
+       translate [HOW MANY [SEED]]          texts made from the seed
+       translate samples TEXTS ANSWERS      the texts of a file, in the form of crates/samples/README.md; an answer
+                                            is the model's text, or the line of the refusal
+       translate models NAME.process ..     each must give NAME.model, and that, checked, NAME.answer
+
+   Text and buffer both end where memory may not be touched, so that a read or a write past either ends the run
+   at once. */
+#include "devashtor.h"
+
+#include "../../reference/reference.h"
+#include "../../reference/translate.h"
+#include "texts.h"
+
+#include <stdio.h>
+#include <stdlib.h>
+#include <string.h>
+
+enum { FRONT = 64, PLENTY = 9000, MOST_STEPS = 200000 };
+
+static uint8_t *text_end, *out_end;
+static unsigned long calls;
+
+static void fail(const char *what, const uint8_t *text, size_t length)
+{
+    printf("translate.c: %s for this text of %zu bytes:\n", what, length);
+    fwrite(text, 1, length, stdout);
+    exit(1);
+}
+
+static void print_word(const char *whose, uint64_t word)
+{
+    if (DEVASHTOR_REFUSED(word))
+        printf("translate.c: %s: refused by %u, line %u\n", whose, DEVASHTOR_NUMBER(word), DEVASHTOR_LINE(word));
+    else
+        printf("translate.c: %s: %llu bytes\n", whose, (unsigned long long)word);
+}
+
+/* One call of both with a buffer of this length. Both buffers are filled alike before, with FRONT bytes more in
+   front, so all of them must be alike afterwards. */
+static uint64_t call(const uint8_t *text, size_t length, size_t buffer)
+{
+    static uint8_t plain[FRONT + PLENTY];
+    uint8_t *from = text_end - length, *out = out_end - buffer, salt = (uint8_t)texts_below(256);
+    uint64_t word, due;
+    memcpy(from, text, length);
+    for (size_t i = 0; i < FRONT + buffer; i++)
+        plain[i] = out[(ptrdiff_t)i - FRONT] = (uint8_t)(i * 7 + (i >> 8) + salt);
+    word = devashtor_translate(from, length, out, buffer);
+    due = plain_translate(text, length, plain + FRONT, buffer);
+    calls++;
+    if (word != due) {
+        print_word("the archive", word);
+        print_word("the plain one", due);
+        fail("another word", text, length);
+    }
+    if (memcmp(from, text, length) != 0)
+        fail("the text was changed", text, length);
+    if (memcmp(out - FRONT, plain, FRONT + buffer) != 0)
+        fail(DEVASHTOR_REFUSED(word) ? "a byte was touched, though refused," : "other bytes", text, length);
+    return word;
+}
+
+/* What the last call has written, or the line of its refusal. */
+static size_t shown(uint64_t word, size_t buffer, uint8_t *into)
+{
+    if (DEVASHTOR_REFUSED(word))
+        return (size_t)sprintf((char *)into, "06%02x%04x\n", DEVASHTOR_NUMBER(word), DEVASHTOR_LINE(word));
+    memcpy(into, out_end - buffer, word);
+    return word;
+}
+
+/* ---- texts with known answers --------------------------------------------------------------------------- */
+
+static uint8_t answer[PLENTY];
+static const char *trying;
+
+/* The answer, of this length, must be that of the file. */
+static void must_be(const uint8_t *right, size_t right_length, size_t length)
+{
+    if (length != right_length || memcmp(answer, right, length) != 0) {
+        printf("translate.c: another answer than that of %s:\n%.*s", trying, (int)length, (const char *)answer);
+        exit(1);
+    }
+}
+
+/* Each text is preceded by its length, each answer is followed by an empty line. */
+static int known_samples(const char *texts_name, const char *answers_name)
+{
+    size_t texts_length, answers_length, at = 0, from = 0, number = 0;
+    uint8_t *texts = texts_of_file(texts_name, &texts_length);
+    uint8_t *answers = texts_of_file(answers_name, &answers_length);
+    trying = answers_name;
+    while (at < texts_length) {
+        unsigned long head = strtoul((const char *)texts + at, NULL, 16);
+        size_t length = head & 0xffff, end = from;
+        while (end + 1 < answers_length && (answers[end] != '\n' || answers[end + 1] != '\n'))
+            end++;
+        if (head >> 24 == 1) { /* the others are models, which caller.c checks */
+            uint64_t word = call(texts + at + 9, length, TRANSLATE_MOST);
+            must_be(answers + from, end + 1 - from, shown(word, TRANSLATE_MOST, answer));
+            number++;
+        }
+        at += 9 + length;
+        from = end + 2;
+    }
+    printf("translate.c: %zu samples, no difference\n", number);
+    return at == texts_length && from == answers_length ? 0 : 1;
+}
+
+static uint8_t *file_beside(const char *process, const char *ending, size_t *length)
+{
+    char name[4096];
+    const char *dot = strrchr(process, '.');
+    snprintf(name, sizeof name, "%.*s%s", (int)(dot == NULL ? 0 : dot - process), process, ending);
+    return texts_of_file(name, length);
+}
+
+static int known_models(char **names)
+{
+    unsigned number = 0;
+    for (; names[number] != NULL; number++) {
+        size_t length, model_length, answer_length;
+        uint8_t *text = texts_of_file(names[number], &length);
+        uint8_t *model = file_beside(names[number], ".model", &model_length);
+        uint8_t *right = file_beside(names[number], ".answer", &answer_length);
+        trying = names[number];
+        must_be(model, model_length, shown(call(text, length, TRANSLATE_MOST), TRANSLATE_MOST, answer));
+        must_be(right, answer_length, devashtor_check(model, model_length, answer, DEVASHTOR_ROOM));
+        free(text);
+        free(model);
+        free(right);
+    }
+    printf("translate.c: %u processes, no difference\n", number);
+    return number > 0 ? 0 : 1;
+}
+
+/* ---- texts by chance -------------------------------------------------------------------------------------- */
+
+static unsigned long refusals[16], holds, fails, unknown, too_many;
+
+/* The model that came out: what the archive prints for it is what the plain checker prints, and its verdict is
+   what the formula means. */
+static void check_model(const uint8_t *text, size_t length, const uint8_t *model, size_t model_length)
+{
+    static uint8_t printed[REFERENCE_MOST];
+    size_t due = reference_print(model, model_length, printed);
+    int meant = plain_satisfies(text, length);
+    if (reference_number != 0 && reference_number != 9)
+        fail("a model that is refused", text, length);
+    if (reference_steps <= MOST_STEPS && (devashtor_check(model, model_length, answer, DEVASHTOR_ROOM) != due ||
+                                          memcmp(answer, printed, due) != 0))
+        fail("the model has another answer", text, length);
+    if (reference_number == 9)
+        too_many++;
+    else if (meant < 0)
+        unknown++;
+    else if ((printed[due - 10] == '1') != meant)
+        fail("another verdict than the formula means", text, length);
+    else
+        *(meant ? &holds : &fails) += 1;
+}
+
+static void try_text(const uint8_t *text, size_t length)
+{
+    static uint8_t model[TRANSLATE_MOST];
+    size_t buffer = TRANSLATE_MOST + texts_below(PLENTY - TRANSLATE_MOST);
+    uint64_t word = call(text, length, buffer);
+    refusals[DEVASHTOR_NUMBER(word) & 15]++; /* counts what is accepted as 0 */
+    if (DEVASHTOR_REFUSED(word)) {
+        call(text, length, texts_below(3) == 0 ? texts_below(100) : 0);
+        return;
+    }
+    shown(word, buffer, model);
+    call(text, length, word);
+    call(text, length, texts_below((unsigned)word));
+    refusals[10] += DEVASHTOR_NUMBER(call(text, length, word - 1)) == 10;
+    refusals[10] += DEVASHTOR_NUMBER(call(text, length, 0)) == 10;
+    check_model(text, length, model, word);
+}
+
+int main(int arguments, char **argument)
+{
+    static const unsigned kinds[] = {1, 2, 3, 14, 15, 10};
+    static uint8_t text[TEXT_MOST];
+    unsigned long wanted = arguments > 1 ? strtoul(argument[1], NULL, 10) : 10000;
+    int weak = 0;
+    text_end = texts_fenced_end();
+    out_end = texts_fenced_end();
+    if (arguments == 4 && strcmp(argument[1], "samples") == 0)
+        return known_samples(argument[2], argument[3]);
+    if (arguments > 2 && strcmp(argument[1], "models") == 0)
+        return known_models(argument + 2);
+    texts_seed(arguments > 2 ? strtoul(argument[2], NULL, 10) : 1);
+    for (unsigned long n = 0; n < wanted; n++)
+        try_text(text, texts_next_process(text));
+    printf("translate.c: %lu texts, %lu calls, no difference: %lu accepted, refused", wanted, calls, refusals[0]);
+    for (unsigned i = 0; i < sizeof kinds / sizeof *kinds; i++) {
+        printf(" %u:%lu", kinds[i], refusals[kinds[i]]);
+        weak = weak || refusals[kinds[i]] * 100 < wanted;
+    }
+    printf("; %lu hold, %lu fail, %lu have over 512 instances, %lu not compared\n", holds, fails, too_many, unknown);
+    if (wanted >= 1000 && (weak || refusals[0] * 3 < wanted || holds * 10 < refusals[0] || fails * 10 < refusals[0])) {
+        printf("translate.c: a kind of answer is missing or rare, so this run is too weak\n");
+        return 1;
+    }
+    return 0;
+}
