@@ -1,7 +1,9 @@
 -- `processes::keeps_rules` meets its contract.
 -- Each first byte has its arm; the ranges of the process are those of the first 256 bytes of the sheet.
 use native.Mathlib.Omega.{arith}
-use mathlib.Core.Path.{refl, sym, _∙_}
+use mathlib.Core.Path.{_≡_, refl, sym, _∙_}
+use mathlib.Core.Bool.{_&&_}
+use lib.Dec.{leb}
 use lib.Seq.{length-take-le}
 use borrow.Author.Tests.{ne-eqb}
 use borrow.Author.Needs.{needs}
@@ -30,7 +32,8 @@ summand c =
     let code = sym (arm .before .element .ensures) ∙ arm .match .keys3 in
     let entry = arm .before .before .before .before .before in
     let told = call .is-summand .ensures .judged (entry .pre .1) (omega (arith, lent (call .before))) in
-    rw (code, ← told, ← c .before .and3 .ensures, ← arm .before .before .and .ensures) (c .and4 .ensures)
+    let few : c .before .and3 .result ≡ leb (entry .args .count) 16 && call .is-summand .result = c .before .and3 .ensures in
+    rw (code, ← told, ← few, ← arm .before .before .and .ensures) (c .and4 .ensures)
 
 formula : tie.Need-returns-4
 unfolding is-next
