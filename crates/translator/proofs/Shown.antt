@@ -19,7 +19,7 @@ use Rattle.emitter.proofs.LinesLaws.{line-written}
 use Rattle.translator.specs.declared.Translated.{Translated}
 use Rattle.translator.specs.Answers.{model-for, translated-text, translation-refusal, translation-answer}
 use Rattle.translator.specs.Answers.{buffer-after, Translates}
-use Rattle.translator.specs.Printed.{longest-text, refusal-frame, printed-translation, Prints}
+use Rattle.translator.specs.Printed.{longest-text, refusal-shown, printed-translation, Prints}
 use Rattle.translator.specs.Theorems.{translated-text-short, written-short}
 
 -- ---- a buffer that has room for every text answers as any other such buffer
@@ -69,7 +69,7 @@ module _ (t out : List ℕ) (room : longest-text ≤ length out) where
       }
 
   pub refusal-printed : {r : Translated} {left left′ : List ℕ} {n : ℕ} → Translates t out r left → (r .number ≡ 0 → ⊥)
-      → LinePut left 0 (refusal-frame r) n left′ → Prints t out n left′
+      → LinePut left 0 (refusal-shown r) n left′ → Prints t out n left′
   unfolding printed-translation buffer-after translation-answer
   refusal-printed {r} {left} {left′} {n} p z put =
       let number = ap (λ (x : Translated). x .number) (p .answered) in
@@ -78,13 +78,13 @@ module _ (t out : List ℕ) (room : longest-text ≤ length out) where
       let same = p .answered ∙ same-answer t (length out) room in
       let longest : eqb (translation-refusal t longest-text .number) 0 ≡ false =
       ap (λ (x : Refusal). eqb (x .number) 0) (sym (same-refusal t (length out) room)) ∙ refusal in
-      let line = ap (λ (x : Translated). line-of (refusal-frame x)) same in
-      let fits : 0 + length (line-of (refusal-frame r)) ≤ length left =
-      rw stays (omega (arith, line-length (refusal-frame r))) in
+      let line = ap (λ (x : Translated). line-of (refusal-shown x)) same in
+      let fits : 0 + length (line-of (refusal-shown r)) ≤ length left =
+      rw stays (omega (arith, line-length (refusal-shown r))) in
       let w = line-written put fits in
       record {
         counted = w .0 ∙ omega arith ∙ ap length line ∙ rw (enough, longest) refl;
-        printed = w .1 ∙ ap (λ (o : List ℕ). sets o 0 (line-of (refusal-frame r))) stays ∙ ap (sets out 0) line ∙
+        printed = w .1 ∙ ap (λ (o : List ℕ). sets o 0 (line-of (refusal-shown r))) stays ∙ ap (sets out 0) line ∙
             rw (enough, longest) refl;
       }
 
@@ -94,9 +94,9 @@ unfolding printed-translation translation-answer
 printed-short t = by-number (eqb (translation-refusal t longest-text .number) 0) refl
   where
     by-number : (b : Bool) → eqb (translation-refusal t longest-text .number) 0 ≡ b
-        → length (cond b (translated-text t) (line-of (refusal-frame (translation-answer t longest-text)))) ≤ longest-text
+        → length (cond b (translated-text t) (line-of (refusal-shown (translation-answer t longest-text)))) ≤ longest-text
     by-number true e = written-short t longest-text (eqb-true _ 0 e)
-    by-number false e = omega (arith, line-length (refusal-frame (translation-answer t longest-text)))
+    by-number false e = omega (arith, line-length (refusal-shown (translation-answer t longest-text)))
 
 printed-within : {t out left : List ℕ} {n : ℕ} → Prints t out n left → n ≤ length out
 printed-within {t} {out} {left} {n} p = by-room (leb longest-text (length out)) refl (p .counted)

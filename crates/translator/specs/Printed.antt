@@ -3,13 +3,14 @@
 use Prim.Native.Nat.{ℕ}
 use mathlib.Core.Path.{_≡_}
 use mathlib.Core.Bool.{cond}
-use mathlib.Core.List.{List, _∷_}
+use mathlib.Core.List.{List}
 use lib.Dec.{eqb, leb}
 use lib.ListN.{length}
 use lib.Seq.{sets}
 use Rattle.meaning.specs.OneReply.{one-reply}
 use Rattle.frames.specs.Frames.{line-of}
-use Rattle.answers.specs.Printed.{two-bytes}
+use Rattle.answers.specs.Answers.{refusal}
+use Rattle.answers.specs.Printed.{refusal-frame}
 use Rattle.translator.specs.declared.Translated.{Translated}
 use Rattle.translator.specs.Answers.{translated-text, translation-answer}
 
@@ -17,14 +18,15 @@ use Rattle.translator.specs.Answers.{translated-text, translation-answer
 abbrev pub longest-text : ℕ
 longest-text = 4117
 
-abbrev pub refusal-frame : Translated → List ℕ
-refusal-frame r = 0x06 ∷ r .number ∷ two-bytes (r .line)
+-- the frame of a refusal, as the checking program has it
+abbrev pub refusal-shown : Translated → List ℕ
+refusal-shown r = refusal-frame (refusal (r .number) (r .line))
 
 -- in a buffer that has room for every text
 unfoldable pub printed-translation : List ℕ → List ℕ
 printed-translation t =
     cond (eqb (translation-answer t longest-text .number) 0) (translated-text t)
-    (line-of (refusal-frame (translation-answer t longest-text)))
+    (line-of (refusal-shown (translation-answer t longest-text)))
 
 -- a smaller buffer gives 0 and stays; the bytes after what is written stay
 pub record Prints (t out : List ℕ) (r : ℕ) (left : List ℕ) : Type 0 where
