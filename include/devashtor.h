@@ -14,7 +14,7 @@ extern "C" {
 
 /* The stack that a check takes at most, whatever the text, with what a thread's own start takes: a thread
    that calls devashtor_check needs no more than this. */
-#define DEVASHTOR_STACK 98304
+#define DEVASHTOR_STACK 147456
 
 /* The same for a thread that calls devashtor_translate. */
 #define DEVASHTOR_TRANSLATE_STACK 131072

@@ -90,7 +90,8 @@ fn as_specs(in_crate: &str, code: &str) -> String {
             let text = lines().take_while(|l| *l != "{").collect::<Vec<_>>().join("\n  ");
             specs += &format!("pub fn·{}\n", text.split("fn ").nth(1).unwrap_or("")).replacen('(', " : (", 1);
         } else if one_of("struct", head) || one_of("enum", head) {
-            specs += &format!("\n{}\n", paragraph.replace("\n    ", "\n  ").replace("\n}", "\n  }"));
+            let declared = paragraph.replace("pub(crate) ", "pub ");
+            specs += &format!("\n{}\n", declared.replace("\n    ", "\n  ").replace("\n}", "\n  }"));
         }
     }
     specs
@@ -103,6 +104,7 @@ fn take_use(uses: &mut HashMap<String, (String, String)>, text: &str) {
     let in_crate = parts[0].split('·').next().unwrap_or("");
     let file = match parts[..] {
         [library, ..] if one_of(library, LIBRARIES) => String::new(),
+        [_, _, "declared", module, _] if module.starts_with(char::is_lowercase) => format!("{in_crate}/src/{module}"),
         [_, _, "declared", ..] => format!("{in_crate}/src/lib"),
         _ => format!("{in_crate}/{}", parts[1..].join("/")),
     };
@@ -145,7 +147,8 @@ fn source_of(text: &str) -> Source {
             let (place, number) = (marks + usize::from(is_type), source.items.len());
             source.names.insert(first[place].clone(), number);
             let is_choice = one_of(&first[marks], "data enum");
-            for member in block.lines().filter(|l| is_choice && indent(l) == margin + 2) {
+            let further = if block.lines().any(|l| l.trim() == "where") { 4 } else { 2 };
+            for member in block.lines().filter(|l| is_choice && indent(l) == margin + further) {
                 for word in words(member).into_iter().take_while(|w| !one_of(w, ": ( , }")) {
                     source.names.entry(word).or_insert(number);
                 }

@@ -52,12 +52,13 @@ fn examine_model(model: Model, bodies: &[u8], table: &mut [u32]) -> Answer
     let count = model.count;
     let s = model.start;
     let start = start_word(s);
-    let found = finding::find(bodies, equations, start, table, 512);
+    let mut graph = [0u64; 8272];
+    let found = finding::find(bodies, equations, start, table, &mut graph);
     if found.over {
         return answers::refuse(9, 0);
     }
     let n = found.count;
-    let truth = solving::solution_of(bodies, equations, count, &table[..n]);
+    let truth = solving::solution_of(bodies, equations, count, &table[..n], &graph);
     judge(n, truth)
 }
 

@@ -17,7 +17,7 @@ use Rattle.evaluator.specs.declared.Value.the-variants.{False, True, Ope
 use Rattle.evaluator.specs.Values.{known, join-value, valued, index-of, value-in}
 
 -- a value as a truth value, where open is taken as `b`
-abbrev as-truth : Bool → Value → Bool
+abbrev pub as-truth : Bool → Value → Bool
 as-truth b False = false
 as-truth b True = true
 as-truth b Open = b
@@ -36,16 +36,16 @@ join-truth b false Open True = sym (join-makes false b)
 join-truth b false Open False = sym (join-drops false b)
 join-truth b false Open Open = sym (join-same false b)
 
-known-truth : (b c : Bool) → as-truth b (known c) ≡ c
+pub known-truth : (b c : Bool) → as-truth b (known c) ≡ c
 known-truth b true = refl
 known-truth b false = refl
 
 -- what σ says of the instances, with open taken as `b`
-abbrev truths : Bool → (ℕ → Value) → Assign
+abbrev pub truths : Bool → (ℕ → Value) → Assign
 truths b σ e x = as-truth b (σ (word (e ∷ x)))
 
 -- a value, with open taken as `b`, is the truth
-valued-truth : (b : Bool) (f : Formula) (σ : ℕ → Value) (v : List ℕ)
+pub valued-truth : (b : Bool) (f : Formula) (σ : ℕ → Value) (v : List ℕ)
     → as-truth b (valued f σ v) ≡ holds f (truths b σ) v
 unfolding valued holds
 valued-truth b (constant c) σ v = known-truth b c

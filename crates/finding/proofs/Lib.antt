@@ -1,4 +1,4 @@
-pub mod FoundWordsLaws
-pub mod Adding
-pub mod GatheringLaws
+pub mod DrawingLaws
+pub mod DrawnGraph
 pub mod Finding
+pub mod FoundGraph

@@ -1,6 +1,3 @@
-pub mod FoundWords
-pub mod Kept
-pub mod Absorbed
-pub mod Gathered
+pub mod Drawn
 pub mod Found
 pub mod OneReply

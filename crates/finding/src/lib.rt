@@ -1,13 +1,14 @@
 // Finding the reached instances of a model: from the start on, those that are left in the right sides of the
-// instances found, in the order of finding.
-mod gathering;
+// instances found, in the order of finding. What each of them reads is drawn as a graph on the way.
+mod drawing;
 
 ghost use Prim.Native.Nat.{_≤_, min};
-ghost use lib.ListN.{length};
-ghost use Rattle.finding.specs.Found.{SideGathers, Finds};
+ghost use mathlib.Core.Path.{_≡_};
+ghost use mathlib.Core.List.{_++_};
+ghost use lib.ListN.{length, take, drop};
+ghost use Rattle.finding.specs.Found.{FindsBefore, Finds};
+use drawing::draw_side;
 use formulas::Equation;
-use gathering::apart;
-use gathering::gather;
 
 // The words found: how many stand in the table, and whether one more was found than there is room.
 pub struct Found {
@@ -15,37 +16,18 @@ pub struct Found {
     pub over: bool,
 }
 
-// Adds the instances that are left in the right side of the instance with the word w to the n words found,
-// and gives their number then.
-fn gather_side(
+// Finds the reached instances from the one with the word `start`, in order, as far as there is room in the
+// table, and draws their graph. Anything may be left behind the words found.
+fn find_in(
     bodies: &[u8],
     equations: [Equation; 8],
-    w: u32,
+    start: u32,
     table: &mut [u32],
-    n: usize,
-) -> usize
-    requires { ⌜ n ≤ length (now table) ⌝ }
-    ensures { λ r. ⌜ SideGathers (now (bodies .entry)) equations w (length (now (table .entry)))
-        (now (table .entry)) (now (table .exit)) n r ⌝ }
-{
-    let e = words::equation_number(w);
-    if 8 <= e {
-        return n;
-    }
-    let equation = equations[e];
-    let body = instances::body_of(bodies, w, equation.length);
-    let scope = words::argument_tuple(w, equation.k);
-    let none = truth::none();
-    let mut found = n;
-    gather(body, 0, scope, apart(0), table, &none, &mut found);
-    found
-}
-
-// Finds the reached instances from the one with the word `start`, in order, as far as there is room in the
-// table.
-fn find_in(bodies: &[u8], equations: [Equation; 8], start: u32, table: &mut [u32]) -> Found
-    ensures { λ r. ⌜ Finds (now (bodies .entry)) equations start (length (now (table .entry)))
-        (now (table .entry)) (now (table .exit)) r ⌝ }
+    graph: &mut [u64],
+) -> Found
+    requires { ⌜ length (now table) ≤ 512 ⌝ }
+    ensures { λ r. ⌜ FindsBefore (now (bodies .entry)) equations start (length (now (table .entry)))
+        (now (table .exit)) (now (graph .entry)) (now (graph .exit)) r ⌝ }
 {
     let room = table.len();
     if room == 0 {
@@ -59,13 +41,17 @@ fn find_in(bodies: &[u8], equations: [Equation; 8], start: u32, table: &mut [u32
     let mut i = 0;
     while i < found {
         let w = table[i];
-        let n = gather_side(bodies, equations, w, table, found);
+        let side = gathering::gather_side(bodies, equations, w, table, found);
+        let n = side.found;
         if room < n {
             return Found {
                 count: room,
                 over: true,
             };
         }
+        let reads = side.reads;
+        let shape = side.shape;
+        draw_side(graph, i, words::equation_number(w), reads, shape);
         found = n;
         i += 1;
     }
@@ -75,17 +61,34 @@ fn find_in(bodies: &[u8], equations: [Equation; 8], start: u32, table: &mut [u32
     }
 }
 
-// The same, and at most `most` of them.
+// The first `count` words are copied to the beginning of a table.
+fn copy_words(words: &[u32], count: usize, table: &mut [u32])
+    requires { ⌜ (count ≤ length (now words)) × (count ≤ length (now table)) ⌝ }
+    ensures { λ r. ⌜ now (table .exit)
+        ≡ take count (now (words .entry)) ++ drop count (now (table .entry)) ⌝ }
+{
+    let mut i = 0;
+    while i < count {
+        table[i] = words[i];
+        i += 1;
+    }
+}
+
+// Finds at most 512 of them, and leaves the rest of the table as it is.
 pub fn find(
     bodies: &[u8],
     equations: [Equation; 8],
     start: u32,
     table: &mut [u32],
-    most: usize,
+    graph: &mut [u64],
 ) -> Found
-    ensures { λ r. ⌜ Finds (now (bodies .entry)) equations start (min (length (now (table .entry))) most)
-        (now (table .entry)) (now (table .exit)) r ⌝ }
+    ensures { λ r. ⌜ Finds (now (bodies .entry)) equations start (min (length (now (table .entry))) 512)
+        (now (table .entry)) (now (table .exit)) (now (graph .entry)) (now (graph .exit)) r ⌝ }
 {
-    let room = basics::smaller(table.len(), most);
-    find_in(bodies, equations, start, &mut table[..room])
+    let mut words = [0u32; 512];
+    let room = basics::smaller(table.len(), 512);
+    let found = find_in(bodies, equations, start, &mut words[..room], graph);
+    let count = found.count;
+    copy_words(&words, count, table);
+    found
 }

@@ -1,2 +1,5 @@
 pub mod Bodies
 pub mod Models
+pub mod SystemLaws
+pub mod Numbers
+pub mod GraphLaws

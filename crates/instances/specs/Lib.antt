@@ -1,5 +1,5 @@
 pub mod Decoded
-pub mod Numbered
 pub mod Sides
 pub mod Models
+pub mod Graph
 pub mod OneReply

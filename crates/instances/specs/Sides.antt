@@ -16,7 +16,7 @@ use Rattle.evaluator.specs.declared.Value.{Value}
 use Rattle.evaluator.specs.declared.Value.the-variants.{False, True, Open}
 use Rattle.evaluator.specs.Values.{valued, value-in}
 use Rattle.instances.specs.Decoded.{equation-at, body-in}
-use Rattle.instances.specs.Numbered.{Truths, Numbered}
+use Rattle.systems.specs.Numbered.{Truths, Numbered}
 
 -- what is read in the decoded body of equation e; "parameter count k (0 to 4)", so no more are in reach
 unfoldable pub parsed-in : List ℕ → List Equation → ℕ → Parsed Formula

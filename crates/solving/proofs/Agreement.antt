@@ -18,8 +18,8 @@ use Rattle.meaning.specs.FixedPoints.{part-in}
 use Rattle.meaning.specs.Systems.{image, Rising, AllRising, image-rising}
 use Rattle.meaning.specs.Iteration.{iterated, iterated-reaches}
 use Rattle.meaning.specs.Table.{arguments-at, arguments-mem, arguments-length, narrow}
-use Rattle.instances.specs.Numbered.{Truths, Numbered}
-use Rattle.solving.specs.Solved.{filled, always, repeated, first-candidate, next-candidate, turn, solved}
+use Rattle.systems.specs.Numbered.{Truths, Numbered}
+use Rattle.systems.specs.Solved.{filled, always, repeated, first-candidate, next-candidate, turn, solved}
 
 -- the set v says of each instance of the list what θ says of it
 abbrev pub Agrees : List Instance → Truths → Assign → Type 0
@@ -107,15 +107,3 @@ module _ (l : List Instance) (S : Numbered) where
         let inner = solved S (length qs) (suc e) in
         let last = last-agrees e (q .sign) (q .right) (narrow l qs) inner (f .1) (f .2) solves v θ h enough (p .0) (p .1) in
         solves _ _ (rw (f .0) last)
-
--- a number that is no instance's keeps what the set says of it
-turns-apart : (S : Numbered) (e n : ℕ) (inner : Truths → Truths) (v : Truths) (j : ℕ) → S .of e j ≡ false
-    → repeated n (turn S e inner) (first-candidate S e v) j ≡ v j
-unfolding repeated next-candidate turn first-candidate filled
-turns-apart S e zero inner v j h = rw h
-turns-apart S e (suc n) inner v j h = rw h (turns-apart S e n inner v j h)
-
-pub solved-apart : (S : Numbered) (left e : ℕ) (v : Truths) (j : ℕ) → ((m : ℕ) → S .of m j ≡ false) → solved S left e v j ≡ v j
-unfolding solved
-solved-apart S zero e v j h = refl
-solved-apart S (suc left) e v j h = solved-apart S left (suc e) _ j h ∙ turns-apart S e (S .size) _ v j (h e)

@@ -1,4 +1,4 @@
-pub mod Fill
-pub mod Turns
 pub mod Agreement
 pub mod SolvedMeaning
+pub mod StepLaws
+pub mod RoundsLaws

@@ -33,12 +33,13 @@ use Rattle.words.specs.Unpacked.{equation-number}
 use Rattle.evaluator.specs.Values.{known, valued, index-of, value-in}
 use Rattle.evaluator.proofs.AsTruth.{Knows, known-valued}
 use Rattle.answers.specs.Answers.{truth-in}
-use Rattle.instances.specs.Numbered.{Truths, Numbered}
+use Rattle.systems.specs.Numbered.{Truths, Numbered}
 use Rattle.instances.specs.Sides.{side-of, is-true, sides, among-first, names, numbered-system}
 use Rattle.instances.specs.Models.{model-from, model-in, WellFormedModel}
 use Rattle.instances.proofs.Models.{model-length, body-there, Typed, typed-below, word-number, word-names}
-use Rattle.solving.specs.Solved.{solved}
-use Rattle.solving.proofs.Agreement.{Agrees, inside, mem-at, listed, Divided, Right, Follows, solved-agrees, solved-apart}
+use Rattle.systems.specs.Solved.{solved}
+use Rattle.systems.specs.Nested as outside
+use Rattle.solving.proofs.Agreement.{Agrees, inside, mem-at, listed, Divided, Right, Follows, solved-agrees}
 
 -- ---- the words of a list of instances
 
@@ -160,7 +161,7 @@ module _ {bodies : List ℕ} {equations : List Equation} {count : ℕ} {start : 
   solved-past : (j : ℕ) → length l ≤ j → solved S count 0 sets.nowhere j ≡ false
   unfolding numbered-system among-first
   solved-past j h =
-      solved-apart S count 0 sets.nowhere j (λ e. rw (le-ltb j (length table) (omega (arith, length-map l word, h))))
+      outside.solved-past S count 0 sets.nowhere j (λ e _ _. rw (le-ltb j (length table) (omega (arith, length-map l word, h))))
 
   -- so the set says of each number the value of its instance, in the order of finding
   value-at : (j : ℕ) → solved S count 0 sets.nowhere j ≡ truth-in model (getD l j [])

@@ -1,3 +1,3 @@
-pub mod Solved
 pub mod Promise
+pub mod Rounds
 pub mod OneReply

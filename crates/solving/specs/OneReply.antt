@@ -8,7 +8,7 @@ use Rattle.meaning.specs.Reach.{Instance}
 use Rattle.formulas.specs.declared.Equation.{Equation}
 use Rattle.solving.specs.Promise.{Solvable, Solves}
 
-pub one-solution-of : (bodies : List ℕ) (equations : List Equation) (count : ℕ) (table : List ℕ)
-    (start : Instance) → Solvable bodies equations count table start
-    → {r s : List ℕ} → Solves bodies equations count table r → Solves bodies equations count table s → r ≡ s
-one-solution-of bodies equations count table start h p q = one-reply (p start h) (q start h)
+pub one-solution-of : (bodies : List ℕ) (equations : List Equation) (count : ℕ) (table graph : List ℕ)
+    (start : Instance) → Solvable bodies equations count table graph start → {r s : List ℕ}
+    → Solves bodies equations count table graph r → Solves bodies equations count table graph s → r ≡ s
+one-solution-of bodies equations count table graph start h p q = one-reply (p start h) (q start h)

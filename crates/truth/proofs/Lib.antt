@@ -1,4 +1,7 @@
 mod Flips
+mod Digits
+mod RowWords
 pub mod Bits
 pub mod Words
+pub mod RowLaws
 pub mod OneReply

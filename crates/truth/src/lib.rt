@@ -1,6 +1,14 @@
-// A set of at most 512 instances, in eight words: instance j is bit j % 64 of word j / 64.
+// A set of at most 512 instances, in eight words: instance j is bit j % 64 of word j / 64. Rows of such sets
+// stand one after the other in a list of words.
+mod rows;
+
 ghost use mathlib.Core.Path.{_≡_};
 ghost use Rattle.truth.specs.Bits.{bit-of, put-in, nowhere, same-below, Counts};
+pub use rows::last_unlike;
+pub use rows::mark;
+pub use rows::put_row;
+pub use rows::row_has;
+pub use rows::with_unlike;
 
 // The empty set.
 pub fn none() -> [u64; 8]

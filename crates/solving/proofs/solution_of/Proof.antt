@@ -1,11 +1,11 @@
 -- `solving::solution_of` meets its contract.
--- What is solved from the first candidates is what is solved from nothing, and that is the meaning.
-use mathlib.Core.Path.{_≡_, sym, subst, _∙_}
-use Prim.Native.Nat.{ℕ, _<_, _≤_, min}
+-- The rounds and the nested solver give the same solution, and that is the meaning.
+use Prim.Native.Nat.{ℕ, _<_, min}
 use native.Mathlib.Omega.{arith}
+use mathlib.Core.Path.{_≡_, refl}
 use mathlib.Core.List.{List}
-use lib.ListN.{length, take, getD, length-take}
-use lib.Seq.{length-take-le, take-all}
+use lib.ListN.{length, getD}
+use lib.Seq.{take-all}
 use mir.Val.{Fits}
 use mir.Syntax.{w64}
 use borrow.Author.Needs.{needs}
@@ -17,59 +17,39 @@ use Rattle.truth.proofs.Bits.{Eight}
 use Rattle.instances.specs.Sides.{numbered-system}
 use Rattle.instances.specs.Models.{model-in}
 use Rattle.instances.proofs.Models.{few-equations}
+use Rattle.systems.specs.Solved.{solved}
 use Rattle.solving.specs.Promise.{Solvable, reached-values}
-use Rattle.solving.specs.Solved.{Unsolved, solved}
 use Rattle.solving.proofs.SolvedMeaning.{solved-words}
-use Rattle.solving.proofs.Turns.{first-unsolved, solved-all}
 use Rattle.solving.proofs.solution_of.Statement.{statement}
 use Rattle.solving.proofs.solution_of.Tie as tie
 
--- a table of at most 512 words is taken whole, and so are the equations, at most eight
-whole : {bodies : List ℕ} {equations : List Equation} {count : ℕ} {table : List ℕ} {start : Instance}
-    → Solvable bodies equations count table start → {size few : ℕ} → size ≡ min (length table) 512 → few ≡ min count 8
-    → (r : List ℕ) → Eight r → bit-of r ≡ solved (numbered-system bodies equations (take size table)) few 0 nowhere
+-- all equations are taken, at most eight
+meant : {bodies : List ℕ} {equations : List Equation} {count : ℕ} {table graph : List ℕ} {start : Instance}
+    → Solvable bodies equations count table graph start → {few : ℕ} → few ≡ min count 8 → {r : List ℕ} → Eight r
+    → bit-of r ≡ solved (numbered-system bodies equations table) few 0 nowhere
     → r ≡ truth-words (reached-values (model-in bodies equations count) start)
-whole {bodies} {equations} {count} {table} {start} h {size} {few} s f r e q =
-    let all = take-all size table (omega (arith, h .few)) ∙ h .words in
+meant {count = count} h {few} f {r} e q =
     let n : few ≡ count = omega (arith, few-equations (h .model)) in
-    solved-words (h .model) r e (rw (all, n) at q)
-
--- where both sizes are known
-module _ (s : tie.After-smaller2) where
-  abbrev start : tie.Start
-  start = s .before .before .before .before .before
-
-  abbrev words : List ℕ
-  words = take (s .before .before .smaller .result) (start .args .table .now)
-
-  few-words : length words ≤ 512
-  few-words =
-      let size = s .before .before .smaller in
-      omega (arith, length-take (size .result) (start .args .table .now), size .ensures)
-
-solve-requires : tie.Need-solve-requires
-solve-requires c κs =
-    let s = c .before in
-    let a = start s .args in
-    let few = s .smaller2 .result in
-    let S = numbered-system (a .bodies .now) (a .equations) (words s) in
-    let unsolved = first-unsolved (a .bodies .now) (a .equations) (words s) few in
-    (few-words s, omega arith, subst (Unsolved S few 0) (sym (c .first-candidates .ensures)) unsolved)
+    solved-words (h .model) r e (rw (h .words, n) at q)
 
 returns : tie.Need-returns
-returns c first h =
-    let s = c .before .before in
-    let a = start s .args in
-    let r = c .solve .result in
+returns c start h =
+    let r = c .before .before .all-rounds .result .truth in
     let eight : length r ≡ 8 = search needs in
     let fits : (i : ℕ) → i < 8 → Fits w64 (getD r i 0) = λ i l. search needs in
-    whole h (s .before .before .smaller .ensures) (s .smaller2 .ensures) r
-    (record { eight = eight; fits = λ i l. fits i l .fits })
-    (solved-all (a .bodies .now) (a .equations) (words s) (s .smaller2 .result)
-    (c .before .first-candidates .ensures) (c .solve .ensures))
+    meant h (c .before .before .before .smaller .ensures) (record { eight = eight; fits = λ i l. fits i l .fits })
+    (c .before .before .all-rounds .ensures (c .before .if1 .taken) (h .drawn))
+
+-- a table of at most 512 words is taken whole
+returns-2 : tie.Need-returns-2
+returns-2 c start h =
+    let r = c .nested-solution .result in
+    let table = c .before .before .before .before .before .before .before .args .table .now in
+    let eight : length r ≡ 8 = search needs in
+    let fits : (i : ℕ) → i < 8 → Fits w64 (getD r i 0) = λ i l. search needs in
+    meant h refl (record { eight = eight; fits = λ i l. fits i l .fits })
+    (rw (take-all 512 table (h .drawn .few)) at (c .nested-solution .ensures))
 
 pub solution-of-spec : {M : Type 1} → statement M
 solution-of-spec =
-    tie.close
-    (tie.spec (λ c κs. tt) (λ c. sym (length-take-le _ _ (omega (arith, c .before .smaller .ensures)))) (λ c κs. tt)
-    (λ c κs. (few-words c, omega (arith, c .smaller2 .ensures))) solve-requires returns)
+    tie.close (tie.spec (λ c κs. tt) (λ c κs. omega arith) returns (λ c κs. tt) returns-2)

@@ -1,0 +1,1 @@
+// Systems whose instances are numbered, and their solutions: definitions and laws in specs/, and no code.
