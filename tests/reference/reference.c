@@ -1,12 +1,14 @@
-/* A plain checker of models. It is written to be read beside the rules of the format and to be
-   slow without shame: a tree for each right side, an array of truth values for all instances,
-   and the nested fixed points computed as they are defined. */
+/* A plain checker of models, written to be read beside the rules of the format: a tree for each right
+   side, arrays that are indexed by an instance's word, and a graph of which instance rests on which, stored
+   while they are found. It solves by rounds over what may have changed; the nested fixed points, computed
+   as they are defined, stand beside that as a second way, and the definition itself as a third. */
 #include "reference.h"
 
-#include <stdbool.h>
+#include <limits.h>
 #include <string.h>
 
-enum { LONGEST = 32768, EQUATIONS = 8, ROOM = 512, WORDS = EQUATIONS << 16 };
+enum { LONGEST = 32768, EQUATIONS = 8, ROOM = 512, WORDS = EQUATIONS << 16, CELLS = ROOM / 64 };
+enum { BUDGET = 1 << 17 }; /* of evaluations, for all rounds together */
 
 /* A formula or a term as it was read. `number` is the byte that follows the code: a range, a
    number, a variable or an equation. */
@@ -32,7 +34,8 @@ static struct node nodes[EQUATIONS * 256];
 static unsigned nodes_used;
 
 unsigned reference_number, reference_line, reference_reached;
-unsigned long reference_steps;
+unsigned long reference_steps, reference_evaluations;
+bool reference_spent;
 
 /* ---- reading: formulas ------------------------------------------------------------------- */
 
@@ -326,7 +329,8 @@ static uint32_t instance_of(const struct node *f, const unsigned *values)
 
 /* ---- finding: what is left of a right side after simplifying -------------------------------- */
 
-enum simple { FALSE, TRUE, OPEN };
+/* A value, one instance, a plain `and` of instances, a plain `or` of instances, or more than that. */
+enum shape { FALSE, TRUE, ONE, ALL, SOME, MIXED };
 
 static uint32_t left[WORDS]; /* the instances left so far, each once, in order of reading */
 static bool is_left[WORDS];
@@ -346,9 +350,19 @@ static void strike_back_to(unsigned length)
         is_left[left[--lefts]] = false;
 }
 
-static enum simple simplify(const struct node *f, unsigned *values, unsigned variables)
+/* The shape of a join (`own`: ALL or SOME) with one part more, which does not decide it. */
+static enum shape with_part(enum shape so_far, enum shape part, enum shape own, enum shape neutral)
 {
-    enum simple neutral, deciding, all, part;
+    if (part == neutral)
+        return so_far;
+    if (so_far == neutral)
+        return part;
+    return (so_far == ONE || so_far == own) && (part == ONE || part == own) ? own : MIXED;
+}
+
+static enum shape simplify(const struct node *f, unsigned *values, unsigned variables)
+{
+    enum shape own, neutral, deciding, all, part;
     unsigned before = lefts, times = 2;
     switch (f->code) {
     case 0x10:
@@ -357,12 +371,13 @@ static enum simple simplify(const struct node *f, unsigned *values, unsigned var
         return TRUE;
     case 0x1a:
         leave(instance_of(f, values));
-        return OPEN;
+        return ONE;
     }
     if (f->code >= 0x16)
         return test_value(f, values) ? TRUE : FALSE;
-    neutral = f->code % 2 == 0 ? TRUE : FALSE; /* 12 and 14 are `and`, 13 and 15 are `or` */
-    deciding = neutral == TRUE ? FALSE : TRUE;
+    own = f->code % 2 == 0 ? ALL : SOME; /* 12 and 14 are `and`, 13 and 15 are `or` */
+    neutral = own == ALL ? TRUE : FALSE;
+    deciding = own == ALL ? FALSE : TRUE;
     if (f->code == 0x14 || f->code == 0x15)
         times = f->number;
     all = neutral;
@@ -377,47 +392,83 @@ static enum simple simplify(const struct node *f, unsigned *values, unsigned var
             strike_back_to(before);
             return deciding;
         }
-        if (part == OPEN)
-            all = OPEN;
+        all = with_part(all, part, own, neutral);
     }
     return all;
 }
 
+/* ---- finding: the reached instances, numbered, and which of them rests on which --------------- */
+
+/* A set of reached instances has a bit for each number. `reads` are the instances left in the right side,
+   `readers` those in whose right sides this one is left. The shape is ALL, SOME or MIXED: a value is a plain
+   join of nothing. */
+struct place {
+    uint64_t reads[CELLS], readers[CELLS];
+    enum shape shape;
+};
+
 static uint32_t reached[ROOM];
-static bool is_reached[WORDS];
+static struct place places[ROOM];
+static uint16_t number_after[WORDS]; /* by word: one more than the instance's number, 0 where it has none */
+static uint64_t of_sign[2][CELLS], within[EQUATIONS][CELLS]; /* the instances of a sign, and of an equation */
+
+static uint64_t bit_of(unsigned j)
+{
+    return (uint64_t)1 << j % 64;
+}
 
 static bool reach(uint32_t word)
 {
-    if (is_reached[word])
+    unsigned j = reference_reached, e = word >> 16;
+    if (number_after[word] != 0)
         return true;
-    if (reference_reached == ROOM)
+    if (j == ROOM)
         return refuse(9, 0);
-    is_reached[word] = true;
     reached[reference_reached++] = word;
+    number_after[word] = (uint16_t)(j + 1);
+    memset(&places[j], 0, sizeof places[j]);
+    within[e][j / 64] |= bit_of(j);
+    of_sign[equations[e].sign][j / 64] |= bit_of(j);
+    return true;
+}
+
+/* Instance j is looked at: what is left in its right side is reached, and rested on. */
+static bool look_at(unsigned j)
+{
+    const struct equation *e = &equations[reached[j] >> 16];
+    unsigned values[8], k;
+    enum shape shape;
+    for (unsigned i = 0; i < e->k; i++)
+        values[i] = argument_of(reached[j], i);
+    strike_back_to(0);
+    reference_steps += e->size;
+    shape = simplify(e->body, values, e->k);
+    places[j].shape = shape == FALSE ? SOME : shape == TRUE || shape == ONE ? ALL : shape;
+    for (unsigned i = 0; i < lefts; i++) {
+        if (!reach(left[i]))
+            return false;
+        k = number_after[left[i]] - 1;
+        places[j].reads[k / 64] |= bit_of(k);
+        places[k].readers[j / 64] |= bit_of(j);
+    }
     return true;
 }
 
 static bool find(void)
 {
-    unsigned values[8], arguments[4];
+    unsigned arguments[4];
+    memset(of_sign, 0, sizeof of_sign);
+    memset(within, 0, sizeof within);
     for (unsigned i = 0; i + 1 < start_length; i++)
         arguments[i] = start[i + 1];
     reach(word_of(start[0], arguments, start_length - 1));
-    for (unsigned j = 0; j < reference_reached; j++) {
-        const struct equation *e = &equations[reached[j] >> 16];
-        for (unsigned i = 0; i < e->k; i++)
-            values[i] = argument_of(reached[j], i);
-        strike_back_to(0);
-        reference_steps += e->size;
-        simplify(e->body, values, e->k);
-        for (unsigned i = 0; i < lefts; i++)
-            if (!reach(left[i]))
-                return false;
-    }
+    for (unsigned j = 0; j < reference_reached; j++)
+        if (!look_at(j))
+            return false;
     return true;
 }
 
-/* ---- solving the reached instances, equation by equation ------------------------------------ */
+/* ---- the value of a right side --------------------------------------------------------------- */
 
 static bool truth[WORDS]; /* by word */
 
@@ -425,7 +476,8 @@ static void forget(void)
 {
     while (reference_reached > 0) {
         uint32_t word = reached[--reference_reached];
-        is_reached[word] = truth[word] = false;
+        number_after[word] = 0;
+        truth[word] = false;
     }
 }
 
@@ -465,6 +517,118 @@ static bool right_side(uint32_t word)
     return formula_value(e->body, values, e->k);
 }
 
+/* ---- solving the reached instances by rounds ------------------------------------------------- */
+
+static uint64_t is_true[CELLS], dirty[CELLS]; /* dirty: its right side may have another value */
+static unsigned cells;                        /* how many cells of a set are in use */
+
+static bool first_value(unsigned e)
+{
+    return equations[e].sign == 1;
+}
+
+/* With this `^` turns a cell of the true instances into one of those that do not have this value. */
+static uint64_t against(bool value)
+{
+    return value ? ~(uint64_t)0 : 0;
+}
+
+/* Instance j gets this other value; of those that rest on it, a right side can only follow, because more true
+   instances never make one false. */
+static void flip(unsigned j, bool value)
+{
+    const uint64_t *readers = places[j].readers, mask = against(value);
+    truth[reached[j]] = value;
+    is_true[j / 64] ^= bit_of(j);
+    for (unsigned i = 0; i < cells; i++)
+        dirty[i] |= readers[i] & (is_true[i] ^ mask);
+}
+
+/* A plain right side is judged by the set that it reads, any other from its tree. */
+static bool value_of(unsigned j)
+{
+    const struct place *p = &places[j];
+    bool all = p->shape == ALL;
+    uint64_t mask = against(all);
+    reference_evaluations++;
+    if (p->shape == MIXED)
+        return right_side(reached[j]);
+    reference_steps++;
+    for (unsigned i = 0; i < cells; i++)
+        if ((p->reads[i] & (is_true[i] ^ mask)) != 0) /* one that decides */
+            return !all;
+    return all;
+}
+
+/* The highest number that is in both sets, -1 where there is none. */
+static int highest(const uint64_t *a, const uint64_t *b)
+{
+    for (unsigned i = cells; i-- > 0;)
+        if ((a[i] & b[i]) != 0)
+            return (int)(64 * i + 63 - (unsigned)__builtin_clzll(a[i] & b[i]));
+    return -1;
+}
+
+/* Evaluates what is dirty in this equation until nothing is, or the budget is spent; whether any flipped. */
+static bool go_through(unsigned e)
+{
+    bool flipped = false, value;
+    int j;
+    while (reference_evaluations < BUDGET && (j = highest(dirty, within[e])) >= 0) {
+        dirty[j / 64] &= ~bit_of((unsigned)j);
+        value = value_of((unsigned)j);
+        if (value != truth[reached[j]] && value != first_value(e)) {
+            flip((unsigned)j, value);
+            flipped = true;
+        }
+    }
+    return flipped;
+}
+
+/* Later equations of the other sign begin again; those of the same sign keep what they have. */
+static void set_back_after(unsigned e)
+{
+    bool first = !first_value(e);
+    for (unsigned m = e + 1; m < count; m++)
+        for (unsigned i = 0; i < cells && first_value(m) == first; i++) {
+            uint64_t moved = within[m][i] & (is_true[i] ^ against(first));
+            dirty[i] |= moved;
+            for (; moved != 0; moved &= moved - 1)
+                flip(64 * i + (unsigned)__builtin_ctzll(moved), first);
+        }
+}
+
+static int last_dirty_equation(void)
+{
+    int e = (int)count - 1;
+    while (e >= 0 && highest(dirty, within[e]) < 0)
+        e--;
+    return e;
+}
+
+/* Rounds until nothing is dirty. False: the budget was spent before. */
+static bool solve_by_rounds(void)
+{
+    int e;
+    cells = (reference_reached + 63) / 64;
+    memcpy(is_true, of_sign[1], sizeof is_true);
+    for (unsigned i = 0; i < CELLS; i++)
+        dirty[i] = of_sign[0][i] | of_sign[1][i];
+    for (unsigned j = 0; j < reference_reached; j++)
+        truth[reached[j]] = first_value(reached[j] >> 16);
+    while ((e = last_dirty_equation()) >= 0) {
+        if (reference_evaluations == BUDGET)
+            return false;
+        if (go_through((unsigned)e))
+            set_back_after((unsigned)e);
+    }
+    return true;
+}
+
+/* ---- solving them as nested fixed points, equation by equation ---------------------------------- */
+
+static unsigned long enough; /* steps after which the work is left */
+
 /* The later equations are solved anew for every candidate of this one. */
 static void solve_from(unsigned e)
 {
@@ -474,7 +638,7 @@ static void solve_from(unsigned e)
     for (unsigned j = 0; j < reference_reached; j++)
         if (reached[j] >> 16 == e)
             truth[reached[j]] = equations[e].sign;
-    while (changed) {
+    while (changed && reference_steps <= enough) {
         solve_from(e + 1);
         for (unsigned j = 0; j < reference_reached; j++)
             if (reached[j] >> 16 == e)
@@ -488,11 +652,38 @@ static void solve_from(unsigned e)
     }
 }
 
+static void solve(void)
+{
+    reference_spent = !solve_by_rounds();
+    if (reference_spent) {
+        enough = ULONG_MAX;
+        solve_from(0);
+    }
+}
+
+int reference_nested_agrees(unsigned long most_steps)
+{
+    bool solved[ROOM], same = true, ended;
+    unsigned long steps = reference_steps;
+    if (reference_number != 0)
+        return -1;
+    for (unsigned j = 0; j < reference_reached; j++)
+        solved[j] = truth[reached[j]];
+    enough = reference_steps + most_steps;
+    solve_from(0);
+    ended = reference_steps <= enough;
+    for (unsigned j = 0; j < reference_reached; j++) {
+        same = same && truth[reached[j]] == solved[j];
+        truth[reached[j]] = solved[j];
+    }
+    reference_steps = steps;
+    return ended ? same : -1;
+}
+
 /* ---- the definition itself: all arguments in range, every candidate set --------------------- */
 
 static uint32_t of_equation[EQUATIONS][16]; /* the words of an equation's instances */
 static unsigned how_many[EQUATIONS];
-static unsigned long enough;
 
 static void give(unsigned e, unsigned set)
 {
@@ -574,12 +765,13 @@ size_t reference_print(const uint8_t *text, size_t length, uint8_t *out)
     unsigned bytes[8], n, trues = 0;
     size_t written = 0;
     forget();
-    reference_steps = 0;
+    reference_steps = reference_evaluations = 0;
+    reference_spent = false;
     if (!read_text(text, length) || !find()) {
         n = reference_number;
         return print_frame(out, (unsigned[]){6, n, reference_line / 256, reference_line % 256}, 4);
     }
-    solve_from(0);
+    solve();
     for (unsigned j = 0; j < reference_reached; j++) {
         n = 0;
         bytes[n++] = 4;
@@ -591,5 +783,6 @@ size_t reference_print(const uint8_t *text, size_t length, uint8_t *out)
         written += print_frame(out + written, bytes, n);
     }
     n = reference_reached;
-    return written + print_frame(out + written, (unsigned[]){5, truth[reached[0]], n / 256, n % 256, trues / 256, trues % 256}, 6);
+    return written + print_frame(out + written, (unsigned[]){5, truth[reached[0]], n / 256, n % 256,
+                                                             trues / 256, trues % 256}, 6);
 }

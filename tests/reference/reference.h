@@ -2,6 +2,7 @@
 #ifndef REFERENCE_H
 #define REFERENCE_H
 
+#include <stdbool.h>
 #include <stddef.h>
 #include <stdint.h>
 
@@ -13,9 +14,19 @@ size_t reference_print(const uint8_t *text, size_t length, uint8_t *out);
 
 /* The refusal's number and line for the last text printed (0 and 0: a verdict), how many
    instances were reached, and how many formulas and terms were met while it was found and solved,
-   each right side counted as a whole with its quantifiers written out. */
+   each right side counted as a whole with its quantifiers written out; where a right side is judged by
+   the set of what it reads, as one. */
 extern unsigned reference_number, reference_line, reference_reached;
 extern unsigned long reference_steps;
+
+/* How many right sides the rounds evaluated for the last text printed, and whether they were given up
+   because these were too many, so that it was solved by nested fixed points. */
+extern unsigned long reference_evaluations;
+extern bool reference_spent;
+
+/* Solves the last text printed again, by nested fixed points, with at most so many steps.
+   1: the same values; 0: other values; -1: refused, or more steps than that. */
+int reference_nested_agrees(unsigned long most_steps);
 
 /* Solves the last text printed again, by the definition itself: over all arguments in range,
    every candidate set tried. 1: the same values; 0: other values; -1: too large for that. */

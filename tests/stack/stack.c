@@ -49,7 +49,7 @@ static void run(void *(*job)(void *), const char *name, const char *expected)
     pthread_attr_t attributes;
     pthread_t thread;
     if (area == NULL) {
-        area = mmap(NULL, fence + DEVASHTOR_TRANSLATE_STACK, PROT_READ | PROT_WRITE, MAP_PRIVATE | MAP_ANONYMOUS, -1, 0);
+        area = mmap(NULL, fence + DEVASHTOR_STACK, PROT_READ | PROT_WRITE, MAP_PRIVATE | MAP_ANONYMOUS, -1, 0);
         if (area == MAP_FAILED || mprotect(area, fence, PROT_NONE) != 0)
             trouble("memory");
     }
@@ -130,6 +130,40 @@ static void terms(const char *name, const char *before, const char *after, int f
         add("2000");
     add(after);
     model(name, expected);
+}
+
+/* The lines of a file. */
+static size_t load(const char *path, char *into, size_t most)
+{
+    FILE *file = fopen(path, "r");
+    size_t got;
+    if (file == NULL)
+        trouble(path);
+    got = fread(into, 1, most - 1, file);
+    into[got] = 0;
+    fclose(file);
+    return got;
+}
+
+/* The model that spends the budget of the rounds, so that it is solved equation within equation, with joins as
+   deep as there is room around each right side: they drop the constants, so the answer is the same. Its equations
+   have one parameter. */
+static void spent(void)
+{
+    static char lines[4000], expected[4000];
+    load("tests/reference/spent.hex", lines, sizeof lines);
+    load("tests/reference/spent.answer", expected, sizeof expected);
+    length = 0;
+    for (char *line = strtok(lines, "\n"); line != NULL; line = strtok(NULL, "\n")) {
+        int head = strncmp(line, "01", 2) == 0 ? 8 : (int)strlen(line);
+        body[0] = 0;
+        spare = 1;
+        if (head == 8)
+            joins(line + head, 0, 0);
+        length += (size_t)sprintf(text + length, "%.*s%s\n", head, line, body);
+    }
+    spare = 0;
+    run(check, "eight equations, the budget spent", expected);
 }
 
 /* ---- processes and formulas ------------------------------------------------------------------------ */
@@ -213,10 +247,12 @@ int main(void)
 {
     deep("no quantifier, an instance", "", "1a0000", fails);
     deep("no quantifier, true", "", "11", holds);
+    deep("no quantifier, instances joined by both", "", "13121a00001a00001a0000", fails);
     deep("two quantifiers around, an instance", "14101410", "1a0000", fails);
     deep("four quantifiers around, true", "1510151015101510", "11", holds);
     deep("four quantifiers inside, an instance", "", "15021502150215021a0000", fails);
     deep("four quantifiers inside, true", "", "141014101410141011", holds);
+    deep("four quantifiers inside, instances joined by both", "", "150215021502150213121a00001a00001a0000", fails);
     strcpy(body, "1410141014101410");
     joins("1a0000", 0, 1);
     model("four quantifiers around, an instance", fails);
@@ -248,6 +284,7 @@ int main(void)
     length += (size_t)sprintf(text + length, "0200\n");
     run(check, "eight equations", "040000\n040100\n040200\n040300\n040400\n040500\n040600\n040700\n050000080000\n");
 
+    spent();
     processes();
     printf("stack.c: at most %zu of %d bytes to check, %zu of %d to translate\n", most_checked, DEVASHTOR_STACK,
            most_translated, DEVASHTOR_TRANSLATE_STACK);

@@ -87,6 +87,8 @@ static int known_samples(const char *texts_name, const char *answers_name)
         memcpy(expected, answers + from, expected_length);
         if (reference_print(text, length, printed) != expected_length || memcmp(printed, expected, expected_length) != 0)
             fail("the plain checker prints something else", text, length);
+        if (reference_nested_agrees(MOST_STEPS) == 0)
+            fail("the plain checker's rounds and nested fixed points differ", text, length);
         call(text, length, DEVASHTOR_ROOM);
         at += 9 + length;
         from = end + 2;
@@ -102,7 +104,8 @@ int main(int arguments, char **argument)
     static const size_t short_buffers[] = {DEVASHTOR_ROOM - 1, 0, 1, 13, 4096};
     static uint8_t text[TEXT_MOST];
     unsigned long wanted = arguments > 1 ? strtoul(argument[1], NULL, 10) : 10000;
-    unsigned long refusals[10] = {0}, holds = 0, fails = 0, defined = 0, reached = 0, full = 0;
+    unsigned long refusals[10] = {0}, holds = 0, fails = 0, nested = 0, defined = 0, reached = 0, full = 0;
+    int same;
     size_t length;
     text_end = texts_fenced_end();
     out_end = texts_fenced_end();
@@ -114,6 +117,9 @@ int main(int arguments, char **argument)
             length = texts_next(text);
             expected_length = reference_print(text, length, expected);
         } while (reference_steps > MOST_STEPS);
+        if ((same = reference_nested_agrees(MOST_STEPS)) == 0)
+            fail("the plain checker's rounds and nested fixed points differ", text, length);
+        nested += same == 1;
         if (n % 4 == 0 && reference_agrees() == 0)
             fail("the plain checker does not agree with the definition", text, length);
         refusals[reference_number]++;
@@ -135,6 +141,7 @@ int main(int arguments, char **argument)
             return 1;
         }
     }
-    printf("; %lu instances, %lu models over 256; %lu solved by the definition too\n", reached, full, defined);
+    printf("; %lu instances, %lu models over 256; solved by nested fixed points too %lu, by the definition %lu\n",
+           reached, full, nested, defined);
     return 0;
 }

@@ -58,6 +58,18 @@ static void plan(unsigned equations, unsigned parameters[2], unsigned ranges[2])
     }
 }
 
+/* Many equations with alternating signs, so that nested fixed points have much to do. */
+static void plan_alternating(void)
+{
+    unsigned first = texts_below(2), most = between(2, 10);
+    count = between(4, 8);
+    for (unsigned e = 0; e < count; e++) {
+        sign[e] = (first + e) % 2;
+        k[e] = 1;
+        range[e][0] = most;
+    }
+}
+
 static void put_head(unsigned e)
 {
     frame_length = 0;
@@ -262,6 +274,8 @@ static size_t model(uint8_t *text)
     size_t length = 0;
     unsigned kind = texts_below(3), size = texts_below(9) % 7, e;
     plan(between(1, size < 3 ? 6 : 4) + 2 * chance(10), parameters[size], ranges[size]);
+    if (kind == 1 && chance(25))
+        plan_alternating();
     for (e = 0; e < count; e++) {
         if (chance(15))
             length = add_note(text, length);

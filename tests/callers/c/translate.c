@@ -152,6 +152,8 @@ static void check_model(const uint8_t *text, size_t length, const uint8_t *model
     int meant = plain_satisfies(text, length);
     if (reference_number != 0 && reference_number != 9)
         fail("a model that is refused", text, length);
+    if (reference_nested_agrees(MOST_STEPS) == 0)
+        fail("the plain checker's rounds and nested fixed points differ", model, model_length);
     if (reference_steps <= MOST_STEPS && (devashtor_check(model, model_length, answer, DEVASHTOR_ROOM) != due ||
                                           memcmp(answer, printed, due) != 0))
         fail("the model has another answer", text, length);
