@@ -48,7 +48,9 @@ returns : tie.Need-returns
 returns c =
     let s = c .before .before in
     let a = start s .args in
-    rw (← take-smaller 512 (a .table .now), ← s .before .before .smaller .ensures, ← s .smaller2 .ensures)
+    let size : s .before .before .smaller .result ≡ min (length (a .table .now)) 512 = s .before .before .smaller .ensures in
+    let few : s .smaller2 .result ≡ min (a .count) 8 = s .smaller2 .ensures in
+    rw (← take-smaller 512 (a .table .now), ← size, ← few)
     (solved-all (a .bodies .now) (a .equations) (words s) (s .smaller2 .result)
     (c .before .first-candidates .ensures) (c .solve .ensures))
 
