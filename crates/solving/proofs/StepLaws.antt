@@ -23,7 +23,7 @@ use Rattle.instances.specs.Sides.{among-first, names, numbered-system}
 use Rattle.instances.specs.Graph.{reads-in, readers-row, members-row, plain-row, GraphOf}
 use Rattle.instances.proofs.SystemLaws.{of-named, system-proper}
 use Rattle.instances.proofs.GraphLaws.{system-hangs, plain-side}
-use Rattle.solving.specs.Rounds.{equation-of, Midst, PutsBack, SetsBack}
+use Rattle.solving.specs.Rounds.{equation-of, Midst, PutsBack, SetsBack, plain-of}
 use Rattle.solving.specs.declared.steps.Progress.{Progress}
 
 -- ---- one number changes
@@ -88,7 +88,7 @@ module _ {bodies : List ℕ} {equations : List Equation} {table graph : List ℕ
 
   -- a plain right side is judged by its row of reads
   pub plain-judged : (all : Bool) (j : ℕ) → j < length table → row-of graph (plain-row all) j ≡ true → (v : Truths)
-      → cond (eqb (last-below 512 (unlike-in (row-of graph j) v all)) 512) all (not all) ≡ S .right-sides v j
+      → plain-of graph j v all ≡ S .right-sides v j
   plain-judged all j inside has v =
       rw (g .reads j inside) (sym (plain-side g all j inside (sym (g .plain all j inside) ∙ has) v))
 

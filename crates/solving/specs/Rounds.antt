@@ -2,17 +2,18 @@
 -- All of it is said of a table whose graph is lent: what is kept before a step is kept after it.
 use Prim.Native.Nat.{ℕ, suc, _≤_, _<_}
 use mathlib.Core.Path.{_≡_}
-use mathlib.Core.Bool.{Bool, true, false, not}
+use mathlib.Core.Bool.{Bool, true, false, not, cond}
 use mathlib.Core.List.{List}
-use lib.ListN.{length, getD}
+use lib.Dec.{eqb}
+use lib.ListN.{getD}
 use Rattle.formulas.specs.declared.Equation.{Equation}
 use Rattle.truth.specs.Bits.{bit-of, nowhere}
 use Rattle.truth.specs.Rows.{row-of, unlike-in, last-below}
 use Rattle.words.specs.Unpacked.{equation-number}
 use Rattle.systems.specs.Numbered.{Truths}
 use Rattle.systems.specs.Solved.{solved}
-use Rattle.systems.specs.Rounds.{Kept, Midway, Restored, Spread, Begun}
-use Rattle.instances.specs.Sides.{is-greatest, numbered-system}
+use Rattle.systems.specs.Rounds.{Kept, Midway, Spread, Begun}
+use Rattle.instances.specs.Sides.{numbered-system}
 use Rattle.instances.specs.Graph.{reads-in, readers-row, members-row, GraphOf}
 use Rattle.solving.specs.declared.steps.Progress.{Progress}
 use Rattle.solving.specs.declared.rounds.Outcome.{Outcome}
@@ -20,6 +21,10 @@ use Rattle.solving.specs.declared.rounds.Outcome.{Outcome}
 -- the equation of instance j
 abbrev pub equation-of : List ℕ → ℕ → ℕ
 equation-of table j = equation-number (getD table j 0)
+
+-- the `and` (all is true) or the `or` of what instance j reads: `all` where no number in its row is otherwise
+abbrev pub plain-of : List ℕ → ℕ → Truths → Bool → Bool
+plain-of graph j v all = cond (eqb (last-below 512 (unlike-in (row-of graph j) v all)) 512) all (not all)
 
 -- the right side of instance j in the set t
 abbrev pub SideJudged : List ℕ → List Equation → (table graph t : List ℕ) (j : ℕ) → Bool → Type 0
@@ -51,7 +56,7 @@ pub record Looks (bodies : List ℕ) (equations : List Equation) (table graph : 
       → Midst bodies equations count table (equation-of table j) p
       → Midst bodies equations count table (equation-of table j) r
 
--- instance j goes to w, and everything else stays
+-- instance j goes to w and the other values stay; it is dirty then, and so are its readers that are not at w
 pub record PutsBack (graph : List ℕ) (j : ℕ) (w : Bool) (p r : Progress) : Type 0 where
   pub here : bit-of (r .truth) j ≡ w
   pub there : (k : ℕ) → (k ≡ j → ⊥) → bit-of (r .truth) k ≡ bit-of (p .truth) k
@@ -61,7 +66,7 @@ pub record PutsBack (graph : List ℕ) (j : ℕ) (w : Bool) (p r : Progress) : T
   pub left : r .left ≡ p .left
   pub changed : r .changed ≡ p .changed
 
--- the instances of equation m go to w, and everything else stays
+-- the instances of equation m go to w and the other values stay; what changed and its readers are dirty then
 pub record SetsBack (graph : List ℕ) (m : ℕ) (w : Bool) (p r : Progress) : Type 0 where
   pub back : (k : ℕ) → row-of graph (members-row m) k ≡ true → bit-of (r .truth) k ≡ w
   pub stays : (k : ℕ) → row-of graph (members-row m) k ≡ false → bit-of (r .truth) k ≡ bit-of (p .truth) k

@@ -1,13 +1,10 @@
 // The steps of a round: one instance is looked at, and the instances of one equation are set back.
 ghost use mathlib.Core.Path.{_≡_};
-ghost use mathlib.Core.Bool.{cond, not};
 ghost use Prim.Native.Nat.{_≤_, _<_};
-ghost use lib.Dec.{eqb};
 ghost use lib.ListN.{length};
 ghost use Rattle.truth.specs.Bits.{bit-of};
-ghost use Rattle.truth.specs.Rows.{row-of, unlike-in, last-below};
 ghost use Rattle.instances.specs.Sides.{is-greatest};
-ghost use Rattle.solving.specs.Rounds.{SideJudged, Looks, PutsBack, SetsBack};
+ghost use Rattle.solving.specs.Rounds.{plain-of, SideJudged, Looks, PutsBack, SetsBack};
 use formulas::Equation;
 
 // A set that comes nearer to the solution, the instances that are dirty, how many looks are left, and whether
@@ -31,8 +28,7 @@ pub(crate) fn is_greatest(equations: [Equation; 8], e: usize) -> bool
 
 // The `and` (the `or`, where `all` is false) of the instances that instance j reads.
 fn plain_value(graph: &[u64], j: usize, t: [u64; 8], all: bool) -> bool
-    ensures { λ r. ⌜ r ≡ cond (eqb (last-below 512 (unlike-in (row-of (now (graph .entry)) j)
-        (bit-of t) all)) 512) all (not all) ⌝ }
+    ensures { λ r. ⌜ r ≡ plain-of (now (graph .entry)) j (bit-of t) all ⌝ }
 {
     if truth::last_unlike(graph, j, t, all) == 512 {
         return all;

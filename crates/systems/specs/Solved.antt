@@ -1,5 +1,5 @@
--- DEFINITIONS: numbered instances solved by turns, equation by equation: what the private functions compute.
--- The meaning of a model is never said by these: SolvedMeaning.antt shows that what they give is the meaning.
+-- DEFINITIONS: numbered instances solved by turns, equation by equation: what both solvers compute.
+-- The meaning of a model is never said by these: solving/proofs/SolvedMeaning shows that they give it.
 use mathlib.Core.Bool.{Bool, cond}
 use mathlib.Core.Path.{_≡_}
 use Prim.Native.Nat.{ℕ, zero, suc, _≤_, _<_}

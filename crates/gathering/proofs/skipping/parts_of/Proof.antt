@@ -1,7 +1,7 @@
 -- `skipping::parts_of` meets its contract.
 -- Each arm is a branch of `parts-of`; every other code has two parts.
 use Prim.Native.Nat.{ℕ, min}
-use mathlib.Core.Path.{_≡_, sym, ap, _∙_}
+use mathlib.Core.Path.{_≡_, sym, ap, _∙_, refl}
 use borrow.Author.Needs.{needs}
 use borrow.Author.Tests.{ne-eqb}
 use Rattle.gathering.specs.Skipped.{parts-of}
@@ -33,6 +33,7 @@ two c =
       ne-eqb _ _ (low .0 .0 .1),
       ne-eqb _ _ (low .0 .0 .0 .1),
     )
+    refl
 
 pub parts-of-spec : {M : Type 1} → statement M
 unfolding parts-of

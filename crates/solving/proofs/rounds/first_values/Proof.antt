@@ -1,5 +1,6 @@
 -- `rounds::first_values` meets its contract.
 -- Equation by equation: those below e are begun.
+use mathlib.Core.Bool.{true}
 use Prim.Native.Nat.{_-_}
 use mathlib.Core.Path.{_≡_, refl, sym, _∙_}
 use mathlib.Core.Logic.{⊎-elim}
@@ -29,7 +30,8 @@ loop-again c =
     let greatest = c .before .is-greatest .ensures in
     beginning-more (l .inv) (omega arith) (omega arith)
     (⊎-elim
-    (λ w. rw (w .2) (row-added (bit-of (l .truth)) row _ (sym greatest ∙ w .0 .taken) none (w .1 .ensures)))
+    (λ w. let yes : c .before .is-greatest .result ≡ true = w .0 .taken in
+    rw (w .2) (row-added (bit-of (l .truth)) row _ (sym greatest ∙ yes) none (w .1 .ensures)))
     (λ w. rw (w .1) (row-left (bit-of (l .truth)) row (sym greatest ∙ w .0 .left)))
     (c .if1 .came))
     (row-added (bit-of (l .dirty)) row _ refl none (c .before .before .with-unlike .ensures))
