@@ -1,12 +1,12 @@
--- The bytes of some characters, one by one.
+-- The bytes of some characters, one by one, and those of the first and of others behind them.
 -- By induction on the characters, two at a time.
-use Prim.Native.Nat.{ℕ, zero, suc, _+_, _*_, _/_, _≤_, _<_}
+use Prim.Native.Nat.{ℕ, zero, suc, _+_, _*_, _/_, _%_, _≤_, _<_}
 use native.Mathlib.Omega.{arith}
-use mathlib.Core.Path.{_≡_, refl}
+use mathlib.Core.Path.{_≡_, refl, ap}
 use mathlib.Core.Bool.{Bool, true, false, cond, _&&_}
-use mathlib.Core.List.{List, [], _∷_}
+use mathlib.Core.List.{List, [], _∷_, _++_}
 use lib.Dec.{leb}
-use lib.ListN.{length, getD, List·getD-eq-default}
+use lib.ListN.{length, getD, take, List·getD-eq-default}
 use borrow.Author.Tests.{leb-true}
 use Rattle.digits.specs.Digits.{worth-of, pair-of, bytes-of}
 
@@ -44,3 +44,20 @@ bytes-small [] i = omega arith
 bytes-small (c ∷ []) i = omega arith
 bytes-small (c ∷ d ∷ s) zero = pair-small (worth-of c) (worth-of d)
 bytes-small (c ∷ d ∷ s) (suc i) = bytes-small s i
+
+-- ---- parts
+pub bytes-append : (a b : List ℕ) → length a % 2 ≡ 0 → bytes-of (a ++ b) ≡ bytes-of a ++ bytes-of b
+unfolding bytes-of
+bytes-append [] b e = refl
+bytes-append (c ∷ []) b e = absurd (omega arith)
+bytes-append (c ∷ d ∷ a) b e =
+    ap (λ (l : List ℕ). pair-of (worth-of c) (worth-of d) ∷ l) (bytes-append a b (omega arith))
+
+pub bytes-take : (n : ℕ) (s : List ℕ) → bytes-of (take (2 * n) s) ≡ take n (bytes-of s)
+unfolding bytes-of
+bytes-take zero s = refl
+bytes-take (suc n) [] = let two : 2 * suc n ≡ suc (suc (2 * n)) = omega arith in rw two refl
+bytes-take (suc n) (c ∷ []) = let two : 2 * suc n ≡ suc (suc (2 * n)) = omega arith in rw two refl
+bytes-take (suc n) (c ∷ d ∷ s) =
+    let two : 2 * suc n ≡ suc (suc (2 * n)) = omega arith in
+    rw two (ap (λ (l : List ℕ). pair-of (worth-of c) (worth-of d) ∷ l) (bytes-take n s))

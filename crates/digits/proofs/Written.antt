@@ -3,11 +3,12 @@
 use mathlib.Core.Path.{_≡_, refl, sym, ap, ap₂, subst, _∙_}
 use mathlib.Core.Bool.{Bool, true, false, cond, and-false, true≢false}
 use mathlib.Core.List.{List, [], _∷_}
-use Prim.Native.Nat.{ℕ, suc, _+_, _*_, _/_, _%_, _≤_, _<_}
+use Prim.Native.Nat.{ℕ, zero, suc, _+_, _*_, _/_, _%_, _≤_, _<_}
 use native.Mathlib.Omega.{arith}
 use native.Mathlib.Decide.{decLt}
 use lib.Dec.{T, leb, eqb, eqb→eq}
-use lib.ListN.{length, getD, replicate, length-append}
+use lib.ListN.{length, getD, drop, replicate, length-append}
+use lib.Seq.{drop-nil}
 use borrow.Author.Tests.{le-leb, lt-leb, leb-true}
 use Rattle.digits.specs.Digits.{worth-of, is-digit, pair-of, digit-of, digits-of, bytes-of, characters}
 use Rattle.digits.proofs.Table.{at}
@@ -69,9 +70,17 @@ pair-written c d p q =
     pair-digits (worth-of c) (worth-of d) (leb-true _ _ p) (leb-true _ _ q) ∙
     ap₂ (λ (x y : ℕ). x ∷ y ∷ []) (digit-written c p) (digit-written d q)
 
--- ---- how long
+-- ---- how long, and without the first
 
 pub length-characters : (bs : List ℕ) → length (characters bs) ≡ 2 * length bs
 unfolding characters
 length-characters [] = refl
 length-characters (b ∷ bs) = rw (length-append (digits-of b) (characters bs), length-characters bs) (omega arith)
+
+pub characters-drop : (n : ℕ) (bs : List ℕ) → characters (drop n bs) ≡ drop (2 * n) (characters bs)
+unfolding characters
+characters-drop zero bs = refl
+characters-drop (suc n) [] = sym (drop-nil (2 * suc n))
+characters-drop (suc n) (b ∷ bs) =
+    let two : 2 * suc n ≡ suc (suc (2 * n)) = omega arith in
+    rw two (characters-drop n bs)

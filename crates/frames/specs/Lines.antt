@@ -2,7 +2,7 @@
 -- "Lines of hexadecimal, one frame a line .. every line ends with byte 0a"; the last may lack it: refusal 3.
 use Prim.Native.Nat.{ℕ, zero, suc, _+_, _-_, _%_}
 use mathlib.Core.Bool.{Bool, true, false, cond, _&&_}
-use mathlib.Core.List.{List, [], _∷_}
+use mathlib.Core.List.{List, [], _∷_, _++_}
 use lib.Dec.{eqb, leb}
 use lib.ListN.{length}
 use Rattle.digits.specs.Digits.{is-digit}
@@ -25,6 +25,11 @@ in-front c ls = cond (eqb c 0x0a) (record { characters = []; ended = true } ∷ 
 unfoldable pub lines-of : List ℕ → List Line
 lines-of [] = []
 lines-of (c ∷ s) = in-front c (lines-of s)
+
+-- the text of some lines: the characters of each, and 0a after those of a line that it ends
+unfoldable pub joined : List Line → List ℕ
+joined [] = []
+joined (l ∷ ls) = l .characters ++ cond (l .ended) (0x0a ∷ joined ls) (joined ls)
 
 unfoldable pub all-digits : List ℕ → Bool
 all-digits [] = true

@@ -34,7 +34,8 @@ fn line_end(text: &[u8], at: usize) -> usize
     i
 }
 
-fn all_digits(characters: &[u8]) -> bool
+// Whether all of some characters are digits.
+pub fn all_digits(characters: &[u8]) -> bool
     ensures { λ r. ⌜ r ≡ all-digits (now (characters .entry)) ⌝ }
 {
     let mut i = 0;

@@ -54,23 +54,22 @@ pub drafted-as : {place : ℕ → ℕ} {fs : List Frame} {m n : Model} {bodies o
     → Drafted place fs m bodies → Drafted place fs n others
 drafted-as e b d = record { model = e ∙ d .model; stored = b ∙ d .stored; kept = d .kept }
 
--- ---- the frames with a first byte, one frame more
-frames-more : (code : ℕ) (fs : List Frame) (f : Frame)
-    → frames-with code (fs ++ (f ∷ [])) ≡ frames-with code fs ++ frames-with code (f ∷ [])
+-- ---- the frames with a first byte, of some and of others behind them
+pub frames-more : (code : ℕ) (fs gs : List Frame) → frames-with code (fs ++ gs) ≡ frames-with code fs ++ frames-with code gs
 unfolding frames-with
-frames-more code [] f = refl
-frames-more code (g ∷ fs) f =
-    let more = frames-more code fs f in
+frames-more code [] gs = refl
+frames-more code (g ∷ fs) gs =
+    let more = frames-more code fs gs in
     cases (eqb (code-of g) code) (λ e. rw e (ap (λ (l : List Frame). g ∷ l) more)) (λ e. rw e more)
 
 module _ (code : ℕ) (fs : List Frame) (f : Frame) where
   frames-one : code-of f ≡ code → frames-with code (fs ++ (f ∷ [])) ≡ frames-with code fs ++ (f ∷ [])
   unfolding frames-with
-  frames-one e = frames-more code fs f ∙ rw (eq-eqb _ _ e) refl
+  frames-one e = frames-more code fs (f ∷ []) ∙ rw (eq-eqb _ _ e) refl
 
   frames-other : eqb (code-of f) code ≡ false → frames-with code (fs ++ (f ∷ [])) ≡ frames-with code fs
   unfolding frames-with
-  frames-other e = frames-more code fs f ∙ rw e (append-nil _)
+  frames-other e = frames-more code fs (f ∷ []) ∙ rw e (append-nil _)
 
 -- ---- one more of eight
 eight-more : {A : Type 0} (x : A) (l : List A) (a : A) → length l < 8 → set (eight x l) (length l) a ≡ eight x (l ++ (a ∷ []))
