@@ -1,0 +1,4 @@
+pub mod SideNumbers
+pub mod PartsPut
+pub mod Known
+pub mod Replied

@@ -1,0 +1,18 @@
+-- What the contracts of the inner functions say; no word of the documents is defined here.
+-- They speak of the structs that the code has; that these are those of the text is shown in proofs/Known.
+use Prim.Native.Nat.{ℕ, _+_}
+use mathlib.Core.List.{List}
+use lib.Dec.{leb}
+use lib.ListN.{length}
+use Rattle.formulas.specs.declared.Equation.{Equation}
+use Rattle.formulas.specs.Bodies.{ranges-of, is-body, is-fitting}
+use Rattle.reading.specs.Reading.{unless}
+
+-- the number of the refusal that a text of `size` characters gets by the new right side of the equation e
+unfoldable pub side-number : ℕ → List ℕ → Equation → List (List ℕ) → ℕ
+side-number size side e declared =
+    unless (leb size 32768) 1
+    (unless (leb (3 + e .k + length side) 256) 3
+    (unless (is-body side (ranges-of e)) 6
+    (unless (is-fitting declared side (ranges-of e)) 7
+    0)))

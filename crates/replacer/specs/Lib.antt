@@ -1,0 +1,9 @@
+pub mod Replaced
+pub mod Order
+pub mod Heads
+pub mod Judging
+pub mod Standing
+pub mod Result
+pub mod Judged
+pub mod Theorems
+pub mod Contract
