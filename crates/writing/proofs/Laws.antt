@@ -27,6 +27,11 @@ module _ {r : Refusal} (text out : List ℕ) where
   unfolding reply-of buffer-after
   writes e = record { answered = rw e refl; written = rw e refl }
 
+-- for who knows which refusal it is
+pub refuses : {r x : Refusal} (text out : List ℕ) → r ≡ x → (x .number ≡ 0 → ⊥)
+    → Writes r text out (refusal-reply (x .number) (x .line)) out
+refuses {r} {x} text out e n = rw e (stays text out n)
+
 -- ---- what a reply says, read back
 module _ {r : Refusal} {text out left : List ℕ} {w : Writing} (p : Writes r text out w left) where
   -- of the refusal: its number and its line
@@ -69,3 +74,11 @@ module _ {out left bytes : List ℕ} {at n : ℕ} where
   puts p room =
       let enough = le-leb (at + length bytes) (length out) room in
       (p .place ∙ rw enough refl, p .written ∙ rw enough refl)
+
+-- an operation that puts its text as a whole
+pub writes-put : {r : Refusal} {text out left : List ℕ} {n : ℕ} → r ≡ refused 0 0 → length text ≤ length out
+    → BytesPut out 0 text n left → Writes r text out (record { number = 0; line = 0; length = n }) left
+writes-put {r} {text} {out} {left} {n} e room put =
+    let p = puts put (omega arith) in
+    let long : n ≡ length text = omega (arith, p .0) in
+    rw (long, p .1) (writes text out e)
