@@ -1,5 +1,5 @@
 -- DEFINITIONS: what an operation answers that writes a text into a lent buffer, and what it leaves there.
--- "nothing is written on any" refusal; "a buffer's bytes past the text written into it stay".
+-- Document 01: "a buffer's bytes past the text written into it stay"; requests: "nothing is written on any".
 use Prim.Native.Nat.{ℕ, _+_}
 use mathlib.Core.Path.{_≡_}
 use mathlib.Core.Bool.{Bool, cond}
