@@ -9,13 +9,15 @@ use mathlib.Core.List.{List}
 use lib.Dec.{eqb}
 use lib.ListN.{length}
 use Rattle.meaning.specs.OneReply.{one-reply}
+use Rattle.reading.specs.Reading.{Refusal}
 use Rattle.answers.specs.declared.Answer.{Answer}
 use Rattle.answers.specs.Answers.{checked, table-after-check}
+use Rattle.writing.specs.declared.Writing.{Writing}
+use Rattle.writing.specs.Writing.{reply-of, buffer-after}
+use Rattle.translator.specs.Answers.{translated-text, translation-refusal}
 use Rattle.checker.specs.declared.Record.{Record}
 use Rattle.checker.specs.declared.ReadAnswer.{ReadAnswer}
 use Rattle.checker.specs.Records.{read-answer, records-after-read, records-after-check}
-use Rattle.translator.specs.declared.Translated.{Translated}
-use Rattle.translator.specs.Answers.{translation-answer, buffer-after}
 
 -- reading the text t, lent `records`: it answers a and leaves `records-left`
 pub record Read (t : List ℕ) (records : List Record) (a : ReadAnswer) (records-left : List Record) : Type 0
@@ -31,19 +33,27 @@ pub record Checked (t : List ℕ) (records : List Record) (table : List ℕ) (a 
   pub listed : table-left ≡ table-after-check t (length records) table
 
 -- what C gets for a reply: how many bytes were written or, on a refusal, 2^63 + number * 2^32 + line
-unfoldable pub reply-word : Translated → ℕ
-reply-word r =
-    cond (eqb (r .number) 0) (r .length) (0x8000000000000000 + r .number * 0x100000000 + r .line)
+unfoldable pub reply-word : Writing → ℕ
+reply-word w =
+    cond (eqb (w .number) 0) (w .length) (0x8000000000000000 + w .number * 0x100000000 + w .line)
 
--- translating the text t into the buffer `out`, for C: it gives r and leaves `left`
-pub record TranslatesForC (t out : List ℕ) (r : ℕ) (left : List ℕ) : Type 0 where
-  pub answered : r ≡ reply-word (translation-answer t (length out))
-  pub written : left ≡ buffer-after t out
+-- an operation that refuses by r and else writes `text` into the buffer `out`, for C: it gives w and leaves
+-- `left`
+pub record WritesForC (r : Refusal) (text out : List ℕ) (w : ℕ) (left : List ℕ) : Type 0 where
+  pub answered : w ≡ reply-word (reply-of r text)
+  pub written : left ≡ buffer-after r text out
 
-pub one-translation-for-c : (t out : List ℕ) {r s : ℕ} {xs ys : List ℕ}
-    → TranslatesForC t out r xs → TranslatesForC t out s ys → (r ≡ s) × (xs ≡ ys)
-one-translation-for-c t out p q =
-    (one-reply (p .answered) (q .answered), one-reply (p .written) (q .written))
+pub one-writing-for-c : {r : Refusal} {text out : List ℕ} {v w : ℕ} {xs ys : List ℕ}
+    → WritesForC r text out v xs → WritesForC r text out w ys → (v ≡ w) × (xs ≡ ys)
+one-writing-for-c p q = (one-reply (p .answered) (q .answered), one-reply (p .written) (q .written))
+
+-- translating the text t
+abbrev pub TranslatesForC : List ℕ → List ℕ → ℕ → List ℕ → Type 0
+TranslatesForC t out w left = WritesForC (translation-refusal t (length out)) (translated-text t) out w left
+
+pub one-translation-for-c : (t out : List ℕ) {v w : ℕ} {xs ys : List ℕ}
+    → TranslatesForC t out v xs → TranslatesForC t out w ys → (v ≡ w) × (xs ≡ ys)
+one-translation-for-c t out = one-writing-for-c
 
 pub one-reading : (t : List ℕ) (records : List Record) {a b : ReadAnswer} {xs ys : List Record}
     → Read t records a xs → Read t records b ys → (a ≡ b) × (xs ≡ ys)

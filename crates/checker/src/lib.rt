@@ -13,8 +13,8 @@ ghost use Rattle.checker.specs.Promises.{reply-word, TranslatesForC};
 use answers::Answer;
 use formulas::Equation;
 use reading::Model;
-pub use translator::Translated;
 pub use translator::translate;
+pub use writing::Writing;
 
 // An equation as reading lends it: absent ranges are 1; place is that of the body's first digit in the text,
 // length the body's bytes.
@@ -77,7 +77,7 @@ pub extern "C" fn devashtor_translate(text: &[u8], out: &mut [u8]) -> u64
     reply_word(translator::translate(text, out))
 }
 
-fn reply_word(r: Translated) -> u64
+fn reply_word(r: Writing) -> u64
     requires { ⌜ r .line ≤ 32769 ⌝ }
     ensures { λ w. ⌜ w ≡ reply-word r ⌝ }
 {

@@ -2,17 +2,17 @@
 -- Each test that is made in the code is the test in the definition.
 use Prim.Native.Nat.{ℕ, _≤_, _<_}
 use native.Mathlib.Omega.{arith}
-use mathlib.Core.Path.{_≡_, refl, ap, _∙_}
+use mathlib.Core.Path.{_≡_, refl}
 use mathlib.Core.Bool.{true, false}
 use mathlib.Core.List.{List}
 use lib.ListN.{length}
-use lib.Seq.{sets}
 use borrow.Author.Tests.{eq-eqb, ne-eqb, le-leb, lt-leb}
-use Rattle.reading.specs.Reading.{Refusal, refused}
+use Rattle.reading.specs.Reading.{refused}
 use Rattle.inputs.specs.Inputs.{input-refusal}
 use Rattle.emitter.specs.Limits.{within-limits}
-use Rattle.translator.specs.Answers.{model-for, translated-text, translation-refusal, refusal-answer}
-use Rattle.translator.specs.Answers.{translation-answer, buffer-after, Translates}
+use Rattle.writing.specs.Writing.{refusal-reply, BytesPut}
+use Rattle.writing.proofs.Laws.{refuses, writes-put}
+use Rattle.translator.specs.Answers.{model-for, translated-text, translation-refusal, Translates}
 
 -- ---- the refusals
 module _ (t : List ℕ) (room : ℕ) where
@@ -38,26 +38,18 @@ module _ (t : List ℕ) (room : ℕ) where
 
 -- ---- what is promised, by the refusal
 module _ (t out : List ℕ) where
-  stays : (x : Refusal) → translation-refusal t (length out) ≡ x → (x .number ≡ 0 → ⊥)
-      → Translates t out (refusal-answer (x .number) (x .line)) out
-  unfolding translation-answer buffer-after
-  stays x e n = record { answered = rw (e, ne-eqb (x .number) 0 n) refl; written = rw (e, ne-eqb (x .number) 0 n) refl }
-
   pub stays-input : (input-refusal t .number ≡ 0 → ⊥)
-      → Translates t out (refusal-answer (input-refusal t .number) (input-refusal t .line)) out
-  stays-input n = stays (input-refusal t) (refused-input t (length out) n) n
+      → Translates t out (refusal-reply (input-refusal t .number) (input-refusal t .line)) out
+  stays-input n = refuses (translated-text t) out (refused-input t (length out) n) n
 
   module _ (read : input-refusal t .number ≡ 0) where
-    pub stays-limits : within-limits (model-for t) ≡ false → Translates t out (refusal-answer 15 0) out
-    stays-limits l = stays (refused 15 0) (refused-limits t (length out) read l) (λ e. omega arith)
+    pub stays-limits : within-limits (model-for t) ≡ false → Translates t out (refusal-reply 15 0) out
+    stays-limits l = refuses (translated-text t) out (refused-limits t (length out) read l) (λ e. omega arith)
 
     module _ (limits : within-limits (model-for t) ≡ true) where
-      pub stays-room : length out < length (translated-text t) → Translates t out (refusal-answer 10 0) out
-      stays-room l = stays (refused 10 0) (refused-room t (length out) read limits l) (λ e. omega arith)
+      pub stays-room : length out < length (translated-text t) → Translates t out (refusal-reply 10 0) out
+      stays-room l = refuses (translated-text t) out (refused-room t (length out) read limits l) (λ e. omega arith)
 
-      pub writes : length (translated-text t) ≤ length out → Translates t out
-          (record { number = 0; line = 0; length = length (translated-text t) }) (sets out 0 (translated-text t))
-      unfolding translation-answer buffer-after
-      writes l =
-          let e = not-refused t (length out) read limits l in
-          record { answered = rw e refl; written = rw e refl }
+      pub model-put : {n : ℕ} {left : List ℕ} → length (translated-text t) ≤ length out
+          → BytesPut out 0 (translated-text t) n left → Translates t out (record { number = 0; line = 0; length = n }) left
+      model-put l = writes-put (not-refused t (length out) read limits l) l

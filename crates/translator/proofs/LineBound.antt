@@ -3,10 +3,9 @@
 use Prim.Native.Nat.{ℕ, _≤_}
 use native.Mathlib.Omega.{arith}
 use native.Mathlib.Decide.{decLe}
-use mathlib.Core.Path.{_≡_, ap}
 use mathlib.Core.Bool.{Bool, true, false, cond}
 use mathlib.Core.List.{List, [], _∷_}
-use lib.Dec.{eqb, leb, lit≤}
+use lib.Dec.{eqb, leb}
 use lib.ListN.{length}
 use borrow.Author.Tests.{le-leb, lt-leb}
 use Rattle.frames.specs.Lines.{lines-of}
@@ -15,8 +14,7 @@ use Rattle.reading.specs.Reading.{Refusal, refused}
 use Rattle.reading.proofs.LineNumbers.{Within, lines-within, lines-length}
 use Rattle.inputs.specs.Inputs.{is-none, with-code, keeps-rules, and-frame, judged, input-refusal}
 use Rattle.emitter.specs.Limits.{within-limits}
-use Rattle.translator.specs.declared.Translated.{Translated}
-use Rattle.translator.specs.Answers.{model-for, translated-text, translation-refusal, translation-answer, Translates}
+use Rattle.translator.specs.Answers.{model-for, translated-text, translation-refusal}
 
 record Low (r : Refusal) : Type 0 where
   to : r .line ≤ 32769
@@ -59,10 +57,3 @@ translation-low t room =
     let room-low = either (leb (length (translated-text t)) room) none (low {number = 10} {line = 0} (omega arith)) in
     let limits-low = either (within-limits (model-for t)) room-low (low {number = 15} {line = 0} (omega arith)) in
     either (eqb (input-refusal t .number) 0) limits-low (input-low t) .to
-
--- so of every reply
-pub reply-low : {t out left : List ℕ} {r : Translated} → Translates t out r left → r .line ≤ 32769
-unfolding translation-answer
-reply-low {t} {out} {left} {r} p =
-    let line = ap (λ (x : Translated). x .line) (p .answered) in
-    omega (arith, line, translation-low t (length out))

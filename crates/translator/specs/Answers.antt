@@ -7,14 +7,14 @@ use mathlib.Core.Bool.{cond}
 use mathlib.Core.List.{List}
 use lib.Dec.{eqb, leb}
 use lib.ListN.{length}
-use lib.Seq.{sets}
-use Rattle.meaning.specs.OneReply.{one-reply}
 use Rattle.meaning.specs.Models.{Model}
 use Rattle.reading.specs.Reading.{Refusal, refused}
 use Rattle.translation.specs.Translation.{translated}
 use Rattle.inputs.specs.Inputs.{input-refusal, process-of, formula-of}
 use Rattle.emitter.specs.Limits.{within-limits, text-for}
-use Rattle.translator.specs.declared.Translated.{Translated}
+use Rattle.writing.specs.declared.Writing.{Writing}
+use Rattle.writing.specs.Writing.{Writes}
+use Rattle.writing.specs.OneReply.{one-writes}
 
 -- the model of the process and the formula of a text, and its text
 abbrev pub model-for : List ℕ → Model
@@ -34,28 +34,11 @@ translation-refusal t room =
     (refused 15 0))
     (input-refusal t)
 
-abbrev pub refusal-answer : ℕ → ℕ → Translated
-refusal-answer number line = record { number = number; line = line; length = 0 }
-
--- number and line of the refusal, both 0 where there is none, and how long the text is that was written
-unfoldable pub translation-answer : List ℕ → ℕ → Translated
-translation-answer t room = record {
-  number = translation-refusal t room .number;
-  line = translation-refusal t room .line;
-  length = cond (eqb (translation-refusal t room .number) 0) (length (translated-text t)) 0;
-}
-
--- "Add a translation into a lent buffer"; the bytes after the text stay, and all do on a refusal
-unfoldable pub buffer-after : List ℕ → List ℕ → List ℕ
-buffer-after t out =
-    cond (eqb (translation-refusal t (length out) .number) 0) (sets out 0 (translated-text t)) out
-
--- ---- what `translate` promises of its reply and of the buffer
-pub record Translates (t out : List ℕ) (r : Translated) (left : List ℕ) : Type 0 where
-  pub answered : r ≡ translation-answer t (length out)
-  pub written : left ≡ buffer-after t out
+-- ---- what `translate` promises of its reply w and of the buffer, `out` before and `left` after
+abbrev pub Translates : List ℕ → List ℕ → Writing → List ℕ → Type 0
+Translates t out w left = Writes (translation-refusal t (length out)) (translated-text t) out w left
 
 -- one reply for each input
-pub one-translation : (t out : List ℕ) {r s : Translated} {xs ys : List ℕ}
-    → Translates t out r xs → Translates t out s ys → (r ≡ s) × (xs ≡ ys)
-one-translation t out p q = (one-reply (p .answered) (q .answered), one-reply (p .written) (q .written))
+pub one-translation : (t out : List ℕ) {v w : Writing} {xs ys : List ℕ}
+    → Translates t out v xs → Translates t out w ys → (v ≡ w) × (xs ≡ ys)
+one-translation t out = one-writes

@@ -1,19 +1,14 @@
 -- `translator::translate` meets its contract.
 -- The input's refusal, then the limits, then the room: each test is that of the definition.
-use Prim.Native.Nat.{ℕ, _≤_, _<_}
 use native.Mathlib.Omega.{arith}
 use mathlib.Core.Path.{_≡_, refl, sym, ap, _∙_}
-use mathlib.Core.Bool.{true, false}
-use mathlib.Core.List.{List}
-use lib.ListN.{length, take}
-use lib.Seq.{length-take-le, sets}
+use mathlib.Core.Bool.{true}
+use lib.Seq.{length-take-le}
 use borrow.Author.Needs.{needs}
 use borrow.Author.Tests.{not-true, not-false}
-use Rattle.inputs.specs.Inputs.{input-refusal, content-of, process-of, formula-of}
 use Rattle.processes.specs.Kept.{input}
 use Rattle.processes.specs.declared.Input.{Input}
-use Rattle.translator.specs.Answers.{model-for, translated-text}
-use Rattle.translator.proofs.Answered.{stays-input, stays-limits, stays-room, writes}
+use Rattle.translator.proofs.Answered.{stays-input, stays-limits, stays-room, model-put}
 use Rattle.translator.proofs.Built.{Told, told, too-large, within, size, room, first}
 use Rattle.translator.proofs.translate.Statement.{statement}
 use Rattle.translator.proofs.translate.Tie as tie
@@ -44,34 +39,28 @@ no-room c =
     let fits = not-false _ (c .before .before .before .if2 .left) in
     rw (c .refuse3 .ensures) (stays-room _ _ (k .read) (within k fits) (omega (arith, size k fits, c .before .if3 .taken)))
 
--- where the model fits: its text is lent, and written
+-- where the model fits: its text is lent, and put
 fits-at : (c : tie.After-model) → c .before .before .before .before .before .model-text .result .ok ≡ true
 fits-at c = not-false _ (c .before .before .before .if2 .left)
 
 long-enough : tie.Need-array-share-prefix-model
-long-enough c = room (known (c .before .before .before .before .before)) (fits-at c)
+long-enough c = room (known (c .before .before .before .before .before .before)) (fits-at (c .before))
 
-text-lent : tie.Need-slice-aggregate-write
+text-lent : tie.Need-slice-aggregate-put
 text-lent c = sym (length-take-le _ _ (long-enough (c .before)))
-
-has-room : tie.Need-write-requires
-has-room c κs =
-    let model = c .before .before in
-    let at = model .before .before .before .before .before in
-    let lent = length-take-le (at .model-text .result .length) (at .model-text .result .text) (long-enough model) in
-    omega (arith, lent, model .before .if3 .left)
 
 text-written : tie.Need-returns-4
 text-written c =
-    let model = c .before .before .before .before .before in
+    let put = c .before .before in
+    let model = put .before .before .before in
     let k = known (model .before .before .before .before .before) in
     let fits = fits-at model in
-    rw (c .before .before .write .ensures, first k fits, size k fits)
-    (writes _ _ (k .read) (within k fits) (omega (arith, size k fits, model .before .if3 .left)))
+    model-put _ _ (k .read) (within k fits) (omega (arith, size k fits, model .before .if3 .left))
+    (rw (first k fits) at (put .put .ensures))
 
 pub translate-spec : {M : Type 1} → statement M
 translate-spec =
     tie.close
     (tie.spec (λ c κs. search needs) (λ c κs. search needs) refused (λ c. search needs) (λ c κs. search needs)
-    (λ c κs. search needs) over-limits (λ c κs. search needs) no-room long-enough text-lent has-room (λ c. search needs)
-    text-written)
+    (λ c κs. search needs) over-limits (λ c κs. search needs) no-room long-enough text-lent (λ c κs. search needs)
+    (λ c. search needs) text-written)
