@@ -1,9 +1,10 @@
-/* How long a whole check takes, and a translation, beside a plain checker and a plain translator in the same
-   run.
+/* How long a whole check takes, a translation, and the replacing of a right side, beside a plain checker, a plain
+   translator and a plain writer in the same run.
 
        bench                          a line for each family of models: the instances reached, how many right
                                       sides the plain checker evaluates, the time of both, and their ratio
        bench translate                the same for the families of processes, with the number of the refusal
+       bench replace                  the same for the families in which a right side is replaced
        bench FAMILY                   the line of one family
        bench FAMILY archive [TIMES]   one run by the archive (or `plain`), or as many as said, to count its
                                       instructions */
@@ -11,6 +12,7 @@
 #include "devashtor.h"
 
 #include "../tests/reference/reference.h"
+#include "../tests/reference/replace.h"
 #include "../tests/reference/translate.h"
 #include "families.h"
 
@@ -22,7 +24,9 @@
 
 /* ---- one run by each ---------------------------------------------------------------------------- */
 
-static uint8_t by_archive[DEVASHTOR_ROOM], by_plain[DEVASHTOR_ROOM];
+static uint8_t by_archive[DEVASHTOR_TEXT], by_plain[DEVASHTOR_TEXT];
+static size_t equation, side_length; /* what is replaced, and by what */
+static uint8_t side[256];
 
 __attribute__((noinline)) static uint64_t check_by_archive(const uint8_t *text, size_t length)
 {
@@ -44,13 +48,25 @@ __attribute__((noinline)) static uint64_t translate_by_plain(const uint8_t *text
     return plain_translate(text, length, by_plain, sizeof by_plain);
 }
 
+__attribute__((noinline)) static uint64_t replace_by_archive(const uint8_t *text, size_t length)
+{
+    return devashtor_replace(text, length, equation, side, side_length, by_archive, sizeof by_archive);
+}
+
+__attribute__((noinline)) static uint64_t replace_by_plain(const uint8_t *text, size_t length)
+{
+    return plain_replace(text, length, equation, side, side_length, by_plain, sizeof by_plain);
+}
+
 typedef uint64_t (*way)(const uint8_t *, size_t);
 
 static way which(const struct family *f, bool plain)
 {
-    if (f->kind != PROCESS)
-        return plain ? check_by_plain : check_by_archive;
-    return plain ? translate_by_plain : translate_by_archive;
+    if (f->kind == REPLACED)
+        return plain ? replace_by_plain : replace_by_archive;
+    if (f->kind == PROCESS)
+        return plain ? translate_by_plain : translate_by_archive;
+    return plain ? check_by_plain : check_by_archive;
 }
 
 /* ---- what is run -------------------------------------------------------------------------------- */
@@ -58,7 +74,19 @@ static way which(const struct family *f, bool plain)
 static const uint8_t *text;
 static size_t length;
 
-/* Makes the text that is to be checked or translated. */
+/* Takes the first line, with the equation and its new right side, off the text. */
+static void take_first_line(void)
+{
+    size_t line = (size_t)((const uint8_t *)strchr((const char *)text, '\n') - text) + 1;
+    equation = strtoul((const char[]){(char)text[0], (char)text[1], (char)text[2], 0}, NULL, 10);
+    side_length = 0;
+    for (size_t at = 3; at + 1 < line; at += 2)
+        side[side_length++] = (uint8_t)strtoul((const char[]){(char)text[at], (char)text[at + 1], 0}, NULL, 16);
+    text += line;
+    length -= line;
+}
+
+/* Makes the text that is to be checked or translated, or in which a right side is to be replaced. */
 static void prepare(const struct family *f)
 {
     static uint8_t model[DEVASHTOR_TRANSLATED];
@@ -69,6 +97,8 @@ static void prepare(const struct family *f)
         text = model;
         length = DEVASHTOR_REFUSED(given) ? 0 : given;
     }
+    if (f->kind == REPLACED)
+        take_first_line();
 }
 
 static double seconds(void)
@@ -91,10 +121,15 @@ static double time_of(way one)
     return best;
 }
 
+static bool is_checked(const struct family *f)
+{
+    return f->kind == MODEL || f->kind == TRANSLATED;
+}
+
 /* Whether the family is what it should be, by what the plain program gave for it. */
 static bool right(const struct family *f, uint64_t given)
 {
-    if (f->kind != PROCESS)
+    if (is_checked(f))
         return reference_number == 0 && reference_reached == f->due && by_plain[given - 10] == '1';
     return (DEVASHTOR_REFUSED(given) ? DEVASHTOR_NUMBER(given) : 0) == f->due;
 }
@@ -114,7 +149,7 @@ static bool measure(const struct family *f)
         printf("%s: the archive answers otherwise\n", f->name);
         return false;
     }
-    if (f->kind != PROCESS)
+    if (is_checked(f))
         snprintf(evaluations, sizeof evaluations, "%lu%s", reference_evaluations, reference_spent ? "+" : "");
     archive = time_of(which(f, false));
     plain = time_of(which(f, true));
@@ -124,10 +159,11 @@ static bool measure(const struct family *f)
     return true;
 }
 
-static bool measure_all(bool processes)
+/* All families of this kind; with the models those whose model comes from a translation. */
+static bool measure_all(enum kind kind)
 {
     for (unsigned i = 0; i < families_count; i++)
-        if ((families[i].kind == PROCESS) == processes && !measure(&families[i]))
+        if ((is_checked(&families[i]) ? MODEL : families[i].kind) == kind && !measure(&families[i]))
             return false;
     return true;
 }
@@ -145,8 +181,12 @@ int main(int arguments, char **argument)
     const struct family *f = arguments > 1 ? family_named(argument[1]) : NULL;
     unsigned long times = arguments > 3 ? strtoul(argument[3], NULL, 10) : 1;
     bool done;
-    if (arguments == 1 || (arguments == 2 && strcmp(argument[1], "translate") == 0))
-        done = measure_all(arguments == 2);
+    if (arguments == 1)
+        done = measure_all(MODEL);
+    else if (arguments == 2 && strcmp(argument[1], "translate") == 0)
+        done = measure_all(PROCESS);
+    else if (arguments == 2 && strcmp(argument[1], "replace") == 0)
+        done = measure_all(REPLACED);
     else if (f == NULL)
         return 2;
     else if (arguments == 2)

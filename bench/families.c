@@ -48,9 +48,9 @@
 
 /* ---- texts that are made ------------------------------------------------------------------------ */
 
-enum { LONGEST = 32768 };
+enum { LONGEST = 32768, FIRST_LINE = 600 };
 
-static char made[LONGEST + 1];
+static char made[FIRST_LINE + LONGEST + 1];
 
 static void add(const char *bytes)
 {
@@ -256,6 +256,62 @@ static void make_board(void)
                  "0832123111113035003400" LINE);
 }
 
+/* ---- right sides to replace ----------------------------------------------------------------------- */
+
+static void add_notes(unsigned long_ones, unsigned short_ones)
+{
+    for (; long_ones > 0; long_ones--) {
+        add("03");
+        add_times(255, "00");
+        add(LINE);
+    }
+    add_times(short_ones, "03" LINE);
+}
+
+/* A right side that has, with its head, the 256 bytes that a frame may have: `and` around this instance. */
+static void add_longest_side(const char *instance)
+{
+    add_times(125, "1211");
+    add(instance);
+}
+
+/* The last right side is to become this one. Eight equations whose frames are as long as they may be, each the next
+   one, leave 28,659 of the 32,768 characters: 55 notes of 256 bytes and 148 of one byte, or 9,553 of one byte, some
+   after each equation and the rest after the start. */
+static void make_replaced(const char *instance, bool long_notes)
+{
+    made[0] = 0;
+    add("007");
+    add_longest_side(instance);
+    add(LINE);
+    for (unsigned e = 0; e < 8; e++) {
+        char next[] = "1a0000";
+        next[3] = (char)('0' + (e + 1) % 8);
+        add(e % 2 == 0 ? GREATEST : LEAST);
+        add("00");
+        add_longest_side(next);
+        add(LINE);
+        add_notes(long_notes ? 6 : 0, long_notes ? 18 : 1061);
+    }
+    add("0200" LINE);
+    add_notes(long_notes ? 7 : 0, long_notes ? 4 : 1065);
+}
+
+static void make_longest(void)
+{
+    make_replaced("1a0300", true);
+}
+
+static void make_many_lines(void)
+{
+    make_replaced("1a0300", false);
+}
+
+static void make_misfit(void)
+{
+    make_replaced("1a0800", true);
+}
+
 /* ---- the families -------------------------------------------------------------------------------- */
 
 const struct family families[] = {
@@ -320,6 +376,14 @@ const struct family families[] = {
     {PROCESS, "doubling", "124 boxes, terms that double in each", 15, made, make_doubling},
     {PROCESS, "branching", "124 boxes, 16 steps in each", 15, made, make_branching},
     {PROCESS, "board", "models/board.process without its notes", 0, made, make_board},
+    {REPLACED, "longest", "the longest text: 8 equations of 256 bytes, notes; a right side as long", 0,
+     made, make_longest},
+    {REPLACED, "many-lines", "the same with 9,553 notes of one byte", 0, made, make_many_lines},
+    {REPLACED, "misfit", "as `longest`, but the right side names no equation at its end", 7, made, make_misfit},
+    {REPLACED, "counter-side", "the sample counter, another right side", 0,
+     "00017" V(0) NUMBER(02) LINE
+     "010001041317210020011a0001220421002001" LINE
+     "020001" LINE, NULL},
 };
 
 const unsigned families_count = sizeof families / sizeof families[0];

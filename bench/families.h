@@ -2,10 +2,11 @@
 #ifndef FAMILIES_H
 #define FAMILIES_H
 
-/* A model is checked, a process translated; of a translated one the model is checked that it gives. */
-enum kind { MODEL, TRANSLATED, PROCESS };
+/* A model is checked, a process translated; of a translated one the model is checked that it gives. Of a replaced one
+   the first line is none of the text: three digits for an equation, then the digits of its new right side. */
+enum kind { MODEL, TRANSLATED, PROCESS, REPLACED };
 
-/* `due`: how many instances are reached; for a process, the number of its refusal. */
+/* `due`: how many instances are reached; for a process or a replaced one, the number of its refusal. */
 struct family {
     enum kind kind;
     const char *name, *what;

@@ -12,8 +12,8 @@ extern "C" {
 /* The least length that `out` must have: no answer has more bytes. */
 #define DEVASHTOR_ROOM 7693
 
-/* The stack that a check takes at most, whatever the text, with what a thread's own start takes: a thread
-   that calls devashtor_check needs no more than this. */
+/* The stack that a check takes at most, or the replacing of a right side, whatever the text, with what a thread's
+   own start takes: a thread that calls devashtor_check or devashtor_replace needs no more than this. */
 #define DEVASHTOR_STACK 147456
 
 /* The same for a thread that calls devashtor_translate. */
@@ -42,6 +42,20 @@ size_t devashtor_check(const uint8_t *text, size_t text_length, uint8_t *out, si
    model's text is refusal 10. Any bytes are a text. `text` and `out` must not overlap, and neither may be null,
    also where its length is 0. */
 uint64_t devashtor_translate(const uint8_t *text, size_t text_length, uint8_t *out, size_t out_length);
+
+/* No text with a right side replaced has more bytes, so a buffer of this length is never refused as too short. */
+#define DEVASHTOR_TEXT 32768
+
+/* Writes the model in text[0 .. text_length) into `out` with the right side of one equation replaced, and gives the
+   number of bytes written; the bytes of `out` after them stay as they were. Equations number from 0;
+   side[0 .. side_length) are the bytes of the new right side themselves (the formula), not their digits. They are
+   written in small letters; every other character stays, notes included.
+   On a refusal it gives 2^63 + number * 2^32 + line and `out` stays untouched: first what the old text is refused by,
+   1 to 8; then 19, line 0, where it has no such equation; then what the new text is refused by, 1 to 8; last 10,
+   line 0, where `out` is shorter than the new text. Any bytes are a text and a right side, any number an equation's.
+   `out` must not overlap `text` or `side`, and none of them may be null, also where its length is 0. */
+uint64_t devashtor_replace(const uint8_t *text, size_t text_length, size_t equation, const uint8_t *side,
+                           size_t side_length, uint8_t *out, size_t out_length);
 
 #ifdef __cplusplus
 }

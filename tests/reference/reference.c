@@ -17,9 +17,11 @@ struct node {
     struct node *part[4];
 };
 
+/* `place` and `length`: where the right side stands in the text, counted in characters from 0, and its bytes. */
 struct equation {
     unsigned sign, k, range[4], line;
     unsigned long size;
+    size_t place, length;
     struct node *body;
 };
 
@@ -146,7 +148,7 @@ static int worth(uint8_t character)
     return -1;
 }
 
-static unsigned read_equation(const uint8_t *frame, unsigned length, unsigned line)
+static unsigned read_equation(const uint8_t *frame, unsigned length, unsigned line, size_t at)
 {
     struct equation *e = &equations[count];
     struct cursor c = {frame, length, 1, false};
@@ -159,6 +161,8 @@ static unsigned read_equation(const uint8_t *frame, unsigned length, unsigned li
         e->range[i] = next_within(&c, 1, 16);
     if (c.bad)
         return 5;
+    e->place = at + 2 * c.at;
+    e->length = length - c.at;
     e->body = read_formula(&c, e->k, 0);
     if (c.bad || c.at != length)
         return 6;
@@ -179,8 +183,11 @@ static unsigned read_start(const uint8_t *frame, unsigned length, unsigned line)
     return 0;
 }
 
-static unsigned read_line(const uint8_t *digits, size_t length, bool ended, unsigned line)
+/* The line has this number, and its digits are text[at .. end). */
+static unsigned read_line(const uint8_t *text, size_t at, size_t end, bool ended, unsigned line)
 {
+    const uint8_t *digits = text + at;
+    size_t length = end - at;
     uint8_t frame[256];
     for (size_t i = 0; i < length; i++)
         if (worth(digits[i]) < 0)
@@ -190,7 +197,7 @@ static unsigned read_line(const uint8_t *digits, size_t length, bool ended, unsi
     for (size_t i = 0; i < length / 2; i++)
         frame[i] = (uint8_t)(16 * worth(digits[2 * i]) + worth(digits[2 * i + 1]));
     if (frame[0] == 1)
-        return read_equation(frame, (unsigned)(length / 2), line);
+        return read_equation(frame, (unsigned)(length / 2), line, at);
     if (frame[0] == 2)
         return read_start(frame, (unsigned)(length / 2), line);
     return frame[0] == 3 ? 0 : 4;
@@ -264,7 +271,7 @@ static bool read_text(const uint8_t *text, size_t length)
         line++;
         for (end = at; end < length && text[end] != '\n'; end++)
             ;
-        number = read_line(text + at, end - at, end < length, line);
+        number = read_line(text, at, end, end < length, line);
         if (number != 0)
             return refuse(number, line);
     }
@@ -746,6 +753,23 @@ int reference_agrees(void)
     for (unsigned j = 0; j < reference_reached; j++)
         truth[reached[j]] = solved[j];
     return reference_steps > enough ? -1 : same;
+}
+
+/* ---- reading alone --------------------------------------------------------------------------- */
+
+void reference_read(const uint8_t *text, size_t length)
+{
+    forget();
+    read_text(text, length);
+}
+
+bool reference_side(size_t equation, size_t *place, size_t *length)
+{
+    if (reference_number != 0 || equation >= count)
+        return false;
+    *place = equations[equation].place;
+    *length = equations[equation].length;
+    return true;
 }
 
 /* ---- printing ------------------------------------------------------------------------------ */

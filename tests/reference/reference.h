@@ -12,7 +12,14 @@ enum { REFERENCE_MOST = 7693 }; /* no answer has more bytes */
    `out` must have room for REFERENCE_MOST bytes. */
 size_t reference_print(const uint8_t *text, size_t length, uint8_t *out);
 
-/* The refusal's number and line for the last text printed (0 and 0: a verdict), how many
+/* Reads the text and does no more: the refusal is then one of 1 to 8, or none. */
+void reference_read(const uint8_t *text, size_t length);
+
+/* Where the right side of this equation stands in the last text read: the place of its first digit, counted
+   from 0, and its length in bytes. False: the text was refused, or there is no such equation. */
+bool reference_side(size_t equation, size_t *place, size_t *length);
+
+/* The refusal's number and line for the last text printed or read (0 and 0: none), how many
    instances were reached, and how many formulas and terms were met while it was found and solved,
    each right side counted as a whole with its quantifiers written out; where a right side is judged by
    the set of what it reads, as one. */

@@ -64,7 +64,7 @@ static void try_families(void)
 {
     const char *before = "rounds.c: evaluations: ";
     for (unsigned i = 0; i < families_count; i++)
-        if (families[i].kind != PROCESS) {
+        if (families[i].kind == MODEL || families[i].kind == TRANSLATED) {
             printf("%s", before);
             try_family(&families[i]);
             before = ", ";

@@ -199,6 +199,26 @@ fn fits(f: &Formula, ranges: &mut Vec<u8>, equations: &[Equation]) -> bool {
     }
 }
 
+// ---- replacing a right side ---------------------------------------------------------------------
+
+/// The text with the right side of one equation replaced by these bytes, or the refusal. The lines that are not
+/// that equation's are kept as they are; `room` is the length of the buffer that the text is for.
+pub fn replace(text: &[u8], equation: usize, side: &[u8], room: usize) -> Result<Vec<u8>, Refusal> {
+    read(text)?;
+    let mut lines: Vec<Vec<u8>> = text.split_inclusive(|c| *c == b'\n').map(<[u8]>::to_vec).collect();
+    let line = lines.iter_mut().filter(|line| line.starts_with(b"01")).nth(equation).ok_or((19, 0))?;
+    let parameters = worth(line[5]).map_or(0, usize::from);
+    line.truncate(2 * (3 + parameters));
+    side.iter().for_each(|b| line.extend(format!("{b:02x}").bytes()));
+    line.push(b'\n');
+    let result = lines.concat();
+    read(&result)?;
+    if room < result.len() {
+        return Err((10, 0));
+    }
+    Ok(result)
+}
+
 // ---- instantiating ------------------------------------------------------------------------------
 
 type Instance = (usize, Vec<u8>);

@@ -1,8 +1,9 @@
-/* Checks and translates the texts that take the most stack in a thread that has just DEVASHTOR_STACK bytes of it, or
-   DEVASHTOR_TRANSLATE_STACK, and says how much was used: bodies, conditions, terms and formulas as deep as a frame of 256 bytes allows, that
-   are read and that are refused. What each must answer is known from how it is made: the constants around its one
-   instance, or around its one constant, change nothing, and a translation keeps them. The first wrong answer, or
-   more stack than stated, ends it. */
+/* Checks and translates the texts that take the most stack, and replaces right sides in them, in a thread that has
+   just DEVASHTOR_STACK bytes of it, or DEVASHTOR_TRANSLATE_STACK, and says how much was used: bodies, conditions,
+   terms and formulas as deep as a frame of 256 bytes allows, that are read and that are refused. What each must answer
+   is known from how it is made: the constants around its one instance, or around its one constant, change nothing,
+   and a translation keeps them; a body stands in the old text, or is the new right side, or both. The first wrong
+   answer, or more stack than stated, ends it. */
 #define _DEFAULT_SOURCE
 #include "devashtor.h"
 
@@ -17,8 +18,8 @@ enum { MOST = 253, PAINT = 0xa7 }; /* a body's bytes: the frame's less 01, sign 
 static const char fails[] = "040000\n050000010000\n", holds[] = "040001\n050100010001\n", refused[] = "06060001\n";
 
 static char text[40000], body[600];
-static uint8_t answer[DEVASHTOR_ROOM];
-static size_t length, written, most_checked, most_translated;
+static uint8_t answer[DEVASHTOR_TEXT], side[300];
+static size_t length, written, equation, side_length, most_checked, most_translated, most_replaced;
 
 static void *check(void *nothing)
 {
@@ -34,6 +35,12 @@ static void *translate(void *nothing)
     return nothing;
 }
 
+static void *replace(void *nothing)
+{
+    word = devashtor_replace((const uint8_t *)text, length, equation, side, side_length, answer, sizeof answer);
+    return nothing;
+}
+
 static void trouble(const char *what)
 {
     perror(what);
@@ -44,8 +51,8 @@ static void trouble(const char *what)
 static void run(void *(*job)(void *), const char *name, const char *expected)
 {
     static uint8_t *area;
-    size_t fence = 64 * 1024, stack = job == check ? DEVASHTOR_STACK : DEVASHTOR_TRANSLATE_STACK, used = stack;
-    size_t *most = job == check ? &most_checked : &most_translated;
+    size_t fence = 64 * 1024, stack = job == translate ? DEVASHTOR_TRANSLATE_STACK : DEVASHTOR_STACK, used = stack;
+    size_t *most = job == check ? &most_checked : job == translate ? &most_translated : &most_replaced;
     pthread_attr_t attributes;
     pthread_t thread;
     if (area == NULL) {
@@ -61,7 +68,7 @@ static void run(void *(*job)(void *), const char *name, const char *expected)
         used--;
     if (used > *most)
         *most = used;
-    if (job == translate) {
+    if (job != check) {
         written = (size_t)word;
         if (DEVASHTOR_REFUSED(word))
             written = (size_t)sprintf((char *)answer, "06%02x%04x\n", DEVASHTOR_NUMBER(word), DEVASHTOR_LINE(word));
@@ -73,11 +80,41 @@ static void run(void *(*job)(void *), const char *name, const char *expected)
     printf("stack.c: %6zu bytes, %s\n", used, name);
 }
 
+/* ---- models ----------------------------------------------------------------------------------------- */
+
 /* One equation with this body, least, and the start. */
+static void put_model(const char *its_body)
+{
+    length = (size_t)sprintf(text, "010000%s\n0200\n", its_body);
+}
+
+/* The bytes of these digits are the new right side of this equation. */
+static void put_side(size_t of, const char *digits)
+{
+    equation = of;
+    for (side_length = 0; *digits != 0; digits += 2)
+        side[side_length++] = (uint8_t)strtoul((const char[]){digits[0], digits[1], 0}, NULL, 16);
+}
+
+/* The model with the old body, and the new one for it: the model with the new one comes out, or a refusal. */
+static void replaced(const char *name, const char *how, const char *old, const char *new, const char *refusal)
+{
+    char whole[300], expected[700];
+    put_model(old);
+    put_side(0, new);
+    sprintf(whole, "%s, %s", name, how);
+    sprintf(expected, "010000%s\n0200\n", new);
+    run(replace, whole, refusal != NULL ? refusal : expected);
+}
+
 static void model(const char *name, const char *expected)
 {
-    length = (size_t)sprintf(text, "010000%s\n0200\n", body);
+    const char *refusal = strcmp(expected, refused) == 0 ? refused : NULL;
+    put_model(body);
     run(check, name, expected);
+    replaced(name, "replaced", body, "11", refusal);
+    replaced(name, "as the new right side", "11", body, refusal);
+    replaced(name, "replaced by itself", body, body, refusal);
 }
 
 static void add(const char *bytes)
@@ -143,6 +180,31 @@ static size_t load(const char *path, char *into, size_t most)
     into[got] = 0;
     fclose(file);
     return got;
+}
+
+/* Eight equations in a circle, each the next in joins that change; the first one is least. */
+static void eight(void)
+{
+    length = 0;
+    for (int e = 0; e < 8; e++) {
+        char next[8];
+        sprintf(next, "1a0%d00", (e + 1) % 8);
+        body[0] = 0;
+        joins(next, 1, 1);
+        length += (size_t)sprintf(text + length, "010%d00%s\n", e % 2, body);
+    }
+    length += (size_t)sprintf(text + length, "0200\n");
+    run(check, "eight equations", "040000\n040100\n040200\n040300\n040400\n040500\n040600\n040700\n050000080000\n");
+}
+
+/* Their last body put in place of itself; then the same in the longest text, which 9,553 notes fill up. */
+static void eight_replaced(void)
+{
+    put_side(7, body);
+    run(replace, "eight equations, the last replaced by itself", text);
+    while (length < DEVASHTOR_TEXT)
+        length += (size_t)sprintf(text + length, "03\n");
+    run(replace, "eight equations in the longest text, the last replaced by itself", text);
 }
 
 /* The model that spends the budget of the rounds, so that it is solved equation within equation, with joins as
@@ -273,20 +335,11 @@ int main(void)
         add("2210");
     model("terms without end", refused);
 
-    length = 0; /* eight equations in a circle, each the next in joins that change; the first one is least */
-    for (int e = 0; e < 8; e++) {
-        char next[8];
-        sprintf(next, "1a0%d00", (e + 1) % 8);
-        body[0] = 0;
-        joins(next, 1, 1);
-        length += (size_t)sprintf(text + length, "010%d00%s\n", e % 2, body);
-    }
-    length += (size_t)sprintf(text + length, "0200\n");
-    run(check, "eight equations", "040000\n040100\n040200\n040300\n040400\n040500\n040600\n040700\n050000080000\n");
-
+    eight();
+    eight_replaced();
     spent();
     processes();
-    printf("stack.c: at most %zu of %d bytes to check, %zu of %d to translate\n", most_checked, DEVASHTOR_STACK,
-           most_translated, DEVASHTOR_TRANSLATE_STACK);
+    printf("stack.c: at most %zu of %d bytes to check, %zu of them to replace, %zu of %d to translate\n", most_checked,
+           DEVASHTOR_STACK, most_replaced, most_translated, DEVASHTOR_TRANSLATE_STACK);
     return 0;
 }

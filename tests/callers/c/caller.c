@@ -10,6 +10,7 @@
 #include "devashtor.h"
 
 #include "../../reference/reference.h"
+#include "samples.h"
 #include "texts.h"
 
 #include <stdio.h>
@@ -65,37 +66,27 @@ static void call(const uint8_t *text, size_t length, size_t buffer)
 
 /* ---- texts with known answers --------------------------------------------------------------- */
 
-/* Each text is preceded by its head, each answer is followed by an empty line; processes are left to translate.c. */
+/* Those that are checked: translate.c and replace.c have the others. */
 static int known_samples(const char *texts_name, const char *answers_name)
 {
     static uint8_t printed[REFERENCE_MOST];
-    size_t texts_length, answers_length, at = 0, from = 0, number = 0;
-    uint8_t *texts = texts_of_file(texts_name, &texts_length);
-    uint8_t *answers = texts_of_file(answers_name, &answers_length);
-    while (at < texts_length) {
-        unsigned long head = strtoul((const char *)texts + at, NULL, 16);
-        size_t length = head & 0xffff, end = from;
-        const uint8_t *text = texts + at + 9;
-        while (end + 1 < answers_length && (answers[end] != '\n' || answers[end + 1] != '\n'))
-            end++;
-        if (head >> 24 != 0) {
-            at += 9 + length;
-            from = end + 2;
-            continue;
-        }
-        expected_length = end + 1 - from;
-        memcpy(expected, answers + from, expected_length);
-        if (reference_print(text, length, printed) != expected_length || memcmp(printed, expected, expected_length) != 0)
-            fail("the plain checker prints something else", text, length);
+    const struct sample *s;
+    size_t number = 0;
+    samples_open(texts_name, answers_name);
+    for (; (s = samples_next(SAMPLE_CHECKED)) != NULL; number++) {
+        expected_length = s->answer_length;
+        if (expected_length > sizeof expected)
+            fail("an answer that is too long", s->text, s->length);
+        memcpy(expected, s->answer, expected_length);
+        if (reference_print(s->text, s->length, printed) != expected_length ||
+            memcmp(printed, expected, expected_length) != 0)
+            fail("the plain checker prints something else", s->text, s->length);
         if (reference_nested_agrees(MOST_STEPS) == 0)
-            fail("the plain checker's rounds and nested fixed points differ", text, length);
-        call(text, length, DEVASHTOR_ROOM);
-        at += 9 + length;
-        from = end + 2;
-        number++;
+            fail("the plain checker's rounds and nested fixed points differ", s->text, s->length);
+        call(s->text, s->length, DEVASHTOR_ROOM);
     }
     printf("caller.c: %zu samples, no difference\n", number);
-    return at == texts_length && from == answers_length ? 0 : 1;
+    return number > 0 ? 0 : 1;
 }
 
 int main(int arguments, char **argument)

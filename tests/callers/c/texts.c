@@ -427,6 +427,141 @@ size_t texts_next(uint8_t *text)
     return length;
 }
 
+/* ---- models in long texts --------------------------------------------------------------------------- */
+
+/* A note of so many bytes where a line begins, or at the end. */
+static size_t insert_note(uint8_t *text, size_t length, unsigned bytes)
+{
+    size_t at = texts_below((unsigned)length + 1);
+    while (at > 0 && at < length && text[at - 1] != '\n')
+        at++;
+    frame_length = 0;
+    put(3);
+    while (frame_length < bytes)
+        put(texts_below(256));
+    length = widen(text, length, at, 2 * bytes + 1);
+    add_line(text, at);
+    return length;
+}
+
+size_t texts_next_long(uint8_t *text, size_t aim)
+{
+    size_t length = model(text);
+    while (length < aim) {
+        unsigned bytes = chance(10) ? 1 : between(1, 256);
+        size_t with = length + 2 * bytes + 1;
+        if (with == aim || with + 5 <= aim || with + 3 == aim) /* the rest must be filled by notes too */
+            length = insert_note(text, length, bytes);
+    }
+    return length;
+}
+
+/* ---- right sides --------------------------------------------------------------------------------------- */
+
+/* Joins around a constant, which change nothing; what is left over of an even number is one byte too many. */
+static void put_joins(size_t bytes)
+{
+    for (; bytes > 2; bytes -= 2) {
+        unsigned some = texts_below(2);
+        put(0x12 + some);
+        put(0x11 - some);
+    }
+    while (bytes-- > 0)
+        put(0x10 + texts_below(2));
+}
+
+/* An instance, in the right side of equation `me`, that names no equation, has the wrong number of arguments, or one
+   of too large a range. */
+static void put_misfit(unsigned me)
+{
+    unsigned kind = texts_below(3), e = texts_below(count), arguments = k[e], large = texts_below(4);
+    variables = k[me];
+    memcpy(scope, range[me], sizeof range[me]);
+    if (kind == 0)
+        e = chance(80) ? count : between(count, 255);
+    else if (kind == 1 || k[e] == 0)
+        arguments = (k[e] + between(1, 4)) % 5;
+    else
+        large %= k[e];
+    put(0x1a);
+    put(e);
+    put(arguments);
+    for (unsigned i = 0; i < arguments; i++) {
+        bool over = kind == 2 && i == large && range[e][i] < 16;
+        if (over && chance(50)) {
+            put(0x22);
+            put(between(range[e][i] + 1, 16));
+            put_term(16, 0);
+            put_term(16, 0);
+        } else {
+            put(0x20);
+            put(over ? range[e][i] : 0);
+        }
+    }
+}
+
+static void put_side_by_chance(unsigned e)
+{
+    static void (*const bodies[])(unsigned) = {body_by_chance, body_by_cases, body_that_walks};
+    unsigned kind = texts_below(3);
+    do {
+        frame_length = 0;
+        bodies[kind](e);
+    } while (frame_length > 250 && chance(80));
+}
+
+/* One byte changed, dropped, added, or all from there on. */
+static void damage_side(void)
+{
+    unsigned at = texts_below(frame_length), kind = texts_below(5);
+    if (kind < 2)
+        frame[at] = (uint8_t)(chance(70) ? texts_below(0x26) : texts_below(256));
+    else if (kind == 2)
+        frame_length = (unsigned)cut(frame, frame_length, at, 1);
+    else if (kind == 3)
+        frame_length = at;
+    else if (frame_length < sizeof frame) {
+        frame_length = (unsigned)widen(frame, frame_length, at, 1);
+        frame[at] = (uint8_t)texts_below(0x26);
+    }
+}
+
+size_t texts_next_side(size_t equation, uint8_t *side)
+{
+    unsigned kind = texts_below(100), e;
+    if (count == 0)
+        plan(1, (unsigned[]){0, 1}, (unsigned[]){1, 3});
+    e = equation < count ? (unsigned)equation : texts_below(count);
+    slipping = kind >= 50 && kind < 60;
+    put_side_by_chance(e);
+    slipping = false;
+    if (kind >= 60 && kind < 75) {
+        damage_side();
+    } else if (kind >= 75 && kind < 90) { /* joined with an instance that does not fit */
+        frame_length = (unsigned)widen(frame, frame_length > 200 ? 0 : frame_length, 0, 1);
+        frame[0] = (uint8_t)(0x12 + texts_below(2));
+        if (frame_length == 1)
+            put_joins(1);
+        put_misfit(e);
+    } else if (kind >= 90 && kind < 95) {
+        frame_length = 0;
+        for (unsigned bytes = texts_below(chance(70) ? 12 : 300); bytes > 0; bytes--)
+            put(texts_below(256));
+    } else if (kind >= 95) {
+        frame_length = 0;
+    }
+    memcpy(side, frame, frame_length);
+    return frame_length;
+}
+
+size_t texts_side_of(size_t bytes, uint8_t *side)
+{
+    frame_length = 0;
+    put_joins(bytes);
+    memcpy(side, frame, frame_length);
+    return frame_length;
+}
+
 /* ---- processes with a formula -------------------------------------------------------------------- */
 
 static unsigned parameters, ranges[4], summands, actions; /* of the process that is being made */

@@ -1,5 +1,5 @@
 /* Texts to try a checker on, made from a seed: valid models, damaged ones, and no models at all; and so for
-   processes with a formula. And where they are put. */
+   processes with a formula. Right sides to put into models. And where they are put. */
 #ifndef TEXTS_H
 #define TEXTS_H
 
@@ -13,6 +13,19 @@ unsigned texts_below(unsigned n); /* a number from 0 to n - 1 */
 
 /* Writes the next text into `text`, which has room for TEXT_MOST bytes, and gives its length. */
 size_t texts_next(uint8_t *text);
+
+/* A model in a text of just this length, which is at least 20,000: its notes, of 1 to 256 bytes, stand anywhere. */
+size_t texts_next_long(uint8_t *text, size_t aim);
+
+/* Writes the bytes of a right side for this equation of the last model made (of any, where it has no such) and gives
+   their number: a formula by chance, one with faults, one that breaks rule 7, any bytes, or none. `side` has room for
+   SIDE_MOST bytes. */
+enum { SIDE_MOST = 1024 };
+size_t texts_next_side(size_t equation, uint8_t *side);
+
+/* The same of so many bytes: a formula where the number is odd (every formula has an odd number), otherwise one with
+   a byte too many. */
+size_t texts_side_of(size_t bytes, uint8_t *side);
 
 /* The same for a process with a formula. */
 size_t texts_next_process(uint8_t *text);

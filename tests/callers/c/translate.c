@@ -14,6 +14,7 @@
 
 #include "../../reference/reference.h"
 #include "../../reference/translate.h"
+#include "samples.h"
 #include "texts.h"
 
 #include <stdio.h>
@@ -88,28 +89,19 @@ static void must_be(const uint8_t *right, size_t right_length, size_t length)
     }
 }
 
-/* Each text is preceded by its length, each answer is followed by an empty line. */
+/* Those that are translated: caller.c and replace.c have the others. */
 static int known_samples(const char *texts_name, const char *answers_name)
 {
-    size_t texts_length, answers_length, at = 0, from = 0, number = 0;
-    uint8_t *texts = texts_of_file(texts_name, &texts_length);
-    uint8_t *answers = texts_of_file(answers_name, &answers_length);
+    const struct sample *s;
+    size_t number = 0;
     trying = answers_name;
-    while (at < texts_length) {
-        unsigned long head = strtoul((const char *)texts + at, NULL, 16);
-        size_t length = head & 0xffff, end = from;
-        while (end + 1 < answers_length && (answers[end] != '\n' || answers[end + 1] != '\n'))
-            end++;
-        if (head >> 24 == 1) { /* the others are models, which caller.c checks */
-            uint64_t word = call(texts + at + 9, length, TRANSLATE_MOST);
-            must_be(answers + from, end + 1 - from, shown(word, TRANSLATE_MOST, answer));
-            number++;
-        }
-        at += 9 + length;
-        from = end + 2;
+    samples_open(texts_name, answers_name);
+    for (; (s = samples_next(SAMPLE_TRANSLATED)) != NULL; number++) {
+        uint64_t word = call(s->text, s->length, TRANSLATE_MOST);
+        must_be(s->answer, s->answer_length, shown(word, TRANSLATE_MOST, answer));
     }
     printf("translate.c: %zu samples, no difference\n", number);
-    return at == texts_length && from == answers_length ? 0 : 1;
+    return number > 0 ? 0 : 1;
 }
 
 static uint8_t *file_beside(const char *process, const char *ending, size_t *length)

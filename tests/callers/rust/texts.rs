@@ -1,4 +1,5 @@
-//! Texts to try a checker on, made from a seed: valid models, damaged ones, and no models at all.
+//! Texts to try a checker on, made from a seed: valid models, damaged ones, and no models at all. And right sides to
+//! put into them.
 
 pub struct Texts {
     state: u64,
@@ -52,6 +53,35 @@ impl Texts {
                     self.damage_text(&mut text);
                 }
                 text
+            }
+        }
+    }
+
+    // ---- right sides ----------------------------------------------------------------------------
+
+    /// The bytes of a right side for this equation of the text: mostly a formula that fits, or one that does not.
+    pub fn side(&mut self, text: &[u8], equation: usize) -> Vec<u8> {
+        let frames = equations_of(text);
+        let heads: Vec<Head> = frames.iter().map(|frame| head_of(frame)).collect();
+        let mut scope = heads.get(equation).map_or(vec![], |head| head.ranges.clone());
+        let kind = if text.len() > 32_000 { self.below(8) } else { self.below(24) };
+        match kind {
+            0 => vec![],
+            1 => (0..self.below(300)).map(|_| self.byte(0, 255)).collect(),
+            2..=4 => [[0x12, 0x11].repeat(self.below(135)), vec![0x11]].concat(),
+            5 | 6 => [[0x12, 0x11].repeat(123 + self.below(5)), vec![0x11]].concat(), // frames of about 256 bytes
+            7..=9 if !frames.is_empty() => body_of(&frames[self.below(frames.len())]),
+            10..=12 => body_of(&self.model().into_iter().find(|frame| frame[0] == 1).unwrap_or_default()),
+            _ if heads.is_empty() => vec![0x11],
+            13 | 14 => {
+                let mut bytes = self.formula(&heads, &mut scope, 2, 0);
+                let at = self.below(bytes.len());
+                bytes[at] = self.byte(0, 0x25);
+                bytes
+            }
+            _ => {
+                let depth = 1 + self.below(4);
+                self.formula(&heads, &mut scope, depth, 0)
             }
         }
     }
@@ -246,6 +276,30 @@ impl Texts {
         }
         text_of(&frames)
     }
+}
+
+/// The frames of equations that have a whole head; other lines are passed over, damaged ones too.
+fn equations_of(text: &[u8]) -> Vec<Vec<u8>> {
+    let frame_of = |line: &[u8]| -> Option<Vec<u8>> {
+        let digits: Option<Vec<u32>> = line.iter().map(|c| char::from(*c).to_digit(16)).collect();
+        Some(digits?.chunks_exact(2).map(|pair| (16 * pair[0] + pair[1]) as u8).collect())
+    };
+    let whole = |f: &Vec<u8>| f.len() > 3 && f[0] == 1 && f[2] <= 4 && f.len() > 3 + usize::from(f[2]);
+    text.split(|c| *c == b'\n').filter_map(frame_of).filter(whole).collect()
+}
+
+/// The bytes of the right side of this equation of a model's text.
+pub fn side_of(text: &[u8], equation: usize) -> Vec<u8> {
+    body_of(&equations_of(text)[equation])
+}
+
+fn head_of(frame: &[u8]) -> Head {
+    let ranges = &frame[3..3 + usize::from(frame[2])];
+    Head { sign: frame[1], ranges: ranges.iter().map(|r| (*r).clamp(1, 16)).collect() }
+}
+
+fn body_of(frame: &[u8]) -> Vec<u8> {
+    frame.get(2).map_or(vec![], |k| frame[3 + usize::from(*k)..].to_vec())
 }
 
 fn text_of(frames: &[Vec<u8>]) -> Vec<u8> {
