@@ -15,6 +15,7 @@ use Rattle.answers.specs.Answers.{checked, table-after-check}
 use Rattle.writing.specs.declared.Writing.{Writing}
 use Rattle.writing.specs.Writing.{reply-of, buffer-after}
 use Rattle.translator.specs.Answers.{translated-text, translation-refusal}
+use Rattle.replacer.specs.Replaced.{replaced-text, replacement-refusal}
 use Rattle.checker.specs.declared.Record.{Record}
 use Rattle.checker.specs.declared.ReadAnswer.{ReadAnswer}
 use Rattle.checker.specs.Records.{read-answer, records-after-read, records-after-check}
@@ -54,6 +55,15 @@ TranslatesForC t out w left = WritesForC (translation-refusal t (length out)) (t
 pub one-translation-for-c : (t out : List ℕ) {v w : ℕ} {xs ys : List ℕ}
     → TranslatesForC t out v xs → TranslatesForC t out w ys → (v ≡ w) × (xs ≡ ys)
 one-translation-for-c t out = one-writing-for-c
+
+-- replacing the right side of equation e of the text t
+abbrev pub ReplacesForC : List ℕ → ℕ → List ℕ → List ℕ → ℕ → List ℕ → Type 0
+ReplacesForC t e side out w left =
+    WritesForC (replacement-refusal t e side (length out)) (replaced-text t e side) out w left
+
+pub one-replacement-for-c : (t : List ℕ) (e : ℕ) (side out : List ℕ) {v w : ℕ} {xs ys : List ℕ}
+    → ReplacesForC t e side out v xs → ReplacesForC t e side out w ys → (v ≡ w) × (xs ≡ ys)
+one-replacement-for-c t e side out = one-writing-for-c
 
 pub one-reading : (t : List ℕ) (records : List Record) {a b : ReadAnswer} {xs ys : List Record}
     → Read t records a xs → Read t records b ys → (a ≡ b) × (xs ≡ ys)

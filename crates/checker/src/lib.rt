@@ -9,10 +9,11 @@ ghost use Rattle.checker.specs.Promises.{Read, Checked};
 ghost use Rattle.printing.specs.Promise.{Written};
 ghost use Rattle.checker.specs.Prepared.{blank, overwritten, prepared, read-from};
 ghost use Rattle.checker.specs.Prepared.{ReadPrepared, CheckPrepared};
-ghost use Rattle.checker.specs.Promises.{reply-word, TranslatesForC};
+ghost use Rattle.checker.specs.Promises.{reply-word, TranslatesForC, ReplacesForC};
 use answers::Answer;
 use formulas::Equation;
 use reading::Model;
+pub use replacer::replace;
 pub use translator::translate;
 pub use writing::Writing;
 
@@ -75,6 +76,22 @@ pub extern "C" fn devashtor_translate(text: &[u8], out: &mut [u8]) -> u64
     ensures { λ r. ⌜ TranslatesForC (now (text .entry)) (now (out .entry)) r (now (out .exit)) ⌝ }
 {
     reply_word(translator::translate(text, out))
+}
+
+// For the image builder, in C: writes a model's text with the right side of an equation replaced by the bytes
+// of a new one into the lent buffer and gives how many bytes it has, or, on a refusal, 2^63 + number * 2^32 +
+// line; then nothing is written.
+#[no_mangle]
+pub extern "C" fn devashtor_replace(
+    text: &[u8],
+    equation: usize,
+    side: &[u8],
+    out: &mut [u8],
+) -> u64
+    ensures { λ r. ⌜ ReplacesForC (now (text .entry)) equation (now (side .entry)) (now (out .entry)) r
+        (now (out .exit)) ⌝ }
+{
+    reply_word(replacer::replace(text, equation, side, out))
 }
 
 fn reply_word(r: Writing) -> u64

@@ -1,6 +1,6 @@
 // The program: a text on standard input, what the command prints for it on standard output. With no command,
-// or with `check`, the text is a model, which is checked; with `translate` a process and a formula. With any
-// other word nothing is printed.
+// or with `check`, the text is a model, which is checked; with `translate` a process and a formula; with
+// `replace E SIDE` a model, of which one right side is replaced. With any other word nothing is printed.
 ghost use mathlib.Core.Path.{_≡_};
 ghost use lib.ListN.{length};
 
@@ -12,6 +12,8 @@ fn main() {
     let command = &name[..size];
     if is_word(command, b"translate") {
         translate(&text[..read]);
+    } else if is_word(command, b"replace") {
+        replace(&text[..read]);
     } else if basics::and(size == 0, os::arg_count() <= 1) {
         check(&text[..read]);
     } else if is_word(command, b"check") {
@@ -46,6 +48,34 @@ fn translate(text: &[u8]) {
     let mut out = model_buffer();
     let written = translator::print_translation(text, &mut out);
     io::write_all(libc::STDOUT_FILENO, &out[..written]);
+}
+
+// Prints the model with the right side of the equation that the second word names replaced by the bytes that
+// the third one says, or the refusal. Nothing where there are other words, or one that no buffer holds.
+fn replace(text: &[u8]) {
+    if os::arg_count() != 4 {
+        return;
+    }
+    let mut number = word_buffer();
+    let digits = os::arg(2, &mut number);
+    if os::errno() != 0 {
+        return;
+    }
+    let mut side = word_buffer();
+    let size = os::arg(3, &mut side);
+    if os::errno() != 0 {
+        return;
+    }
+    let mut out = text_buffer();
+    let written = replacer::print_replacement(text, &number[..digits], &side[..size], &mut out);
+    io::write_all(libc::STDOUT_FILENO, &out[..written]);
+}
+
+// As many bytes as a word of a command line may have on Linux.
+fn word_buffer() -> [u8; 131072]
+    ensures { λ r. ⌜ 131072 ≡ length r ⌝ }
+{
+    [0; 131072]
 }
 
 // One byte more than a text may have: a longer input is refused as this one is.

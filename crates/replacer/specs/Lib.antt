@@ -6,4 +6,5 @@ pub mod Standing
 pub mod Result
 pub mod Judged
 pub mod Theorems
+pub mod Printed
 pub mod Contract

@@ -1,4 +1,6 @@
 // A model's text with one right side replaced, notes and order kept, written into a lent buffer.
+mod command;
+
 ghost use mathlib.Core.Path.{_≡_};
 ghost use mathlib.Core.List.{_++_};
 ghost use Prim.Native.Nat.{_+_, _-_, _*_, _≤_};
@@ -8,6 +10,7 @@ ghost use Rattle.frames.specs.Frames.{line-of};
 ghost use Rattle.formulas.specs.Bodies.{signatures-of};
 ghost use Rattle.replacer.specs.Contract.{side-number};
 ghost use Rattle.replacer.specs.Replaced.{Replaces};
+pub use command::print_replacement;
 use formulas::Equation;
 use writing::Writing;
 

@@ -12,5 +12,8 @@ answer-first-spec =
     tie.close
     (tie.spec (λ c κs. search needs) (λ c. search needs)
     (λ c. sym (length-take-le _ _ (omega (arith, c .before .before .smaller .ensures)))) (λ c κs. search needs)
-    (λ c. search needs) (λ c. sym (length-take-le _ _ (omega (arith, c .before .before .smaller .ensures))))
-    (λ c κs. search needs) (λ c. search needs) (λ c. search needs) (λ c. search needs) (λ c. search needs))
+    (λ c. search needs) (λ c. sym (length-take-le _ _ (omega (arith, c .before .before .before .smaller .ensures))))
+    (λ c κs. search needs)
+    (λ c. search needs) (λ c. sym (length-take-le _ _ (omega (arith, c .before .before .before .smaller .ensures))))
+    (λ c κs. search needs) (λ c. search needs) (λ c. search needs) (λ c. search needs) (λ c. search needs)
+    (λ c. search needs) (λ c. search needs))
