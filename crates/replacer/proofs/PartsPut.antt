@@ -2,7 +2,7 @@
 -- Each is put where the one before it ends, so a run of stores goes on where it stopped.
 use Prim.Native.Nat.{ℕ, _+_, _*_, _≤_}
 use native.Mathlib.Omega.{arith}
-use mathlib.Core.Path.{_≡_, sym, ap, _∙_}
+use mathlib.Core.Path.{_≡_, ap, subst, _∙_}
 use mathlib.Core.List.{List, _++_}
 use lib.ListN.{length, length-append}
 use lib.Seq.{sets, length-sets}
@@ -13,10 +13,12 @@ use Rattle.frames.proofs.Stores.{line-then, line-puts}
 use Rattle.writing.specs.Writing.{BytesPut}
 use Rattle.writing.proofs.Laws.{puts}
 
-pub parts-put : {out out₁ out₂ out₃ first side rest : List ℕ} {place n next m : ℕ} → length first ≡ place
-    → BytesPut out 0 first n out₁ → LinePut out₁ place side next out₂ → BytesPut out₂ next rest m out₃
+-- `last` is what is put as the third
+pub parts-put : {out out₁ out₂ out₃ first side last rest : List ℕ} {place n next m : ℕ} → length first ≡ place
+    → BytesPut out 0 first n out₁ → LinePut out₁ place side next out₂ → BytesPut out₂ next last m out₃ → last ≡ rest
     → place + (2 * length side + 1 + length rest) ≤ length out → out₃ ≡ sets out 0 (first ++ (line-of side ++ rest))
-parts-put {out} {out₁} {out₂} {out₃} {first} {side} {rest} {place} {n} {next} {m} long a b c room =
+parts-put {out} {out₁} {out₂} {out₃} {first} {side} {last} {rest} {place} {n} {next} {m} long a b put same room =
+    let c : BytesPut out₂ next rest m out₃ = subst (λ (l : List ℕ). BytesPut out₂ next l m out₃) same put in
     let one = puts a (omega arith) in
     let here : n ≡ place = omega (arith, one .0) in
     let same₁ = ap length (one .1) ∙ length-sets out 0 first in

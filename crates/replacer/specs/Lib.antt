@@ -6,5 +6,6 @@ pub mod Standing
 pub mod Result
 pub mod Judged
 pub mod Theorems
+pub mod Samples
 pub mod Printed
 pub mod Contract

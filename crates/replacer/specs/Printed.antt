@@ -52,7 +52,8 @@ printed-replacement t number side =
     []
 
 abbrev pub PrintsReplacement : List ℕ → List ℕ → List ℕ → List ℕ → ℕ → List ℕ → Type 0
-PrintsReplacement t number side out n left = Prints longest-text (printed-replacement t number side) out n left
+PrintsReplacement t number side out n left =
+    Prints longest-text (printed-replacement t number side) out n left
 
 pub one-printing : (t number side out : List ℕ) {m n : ℕ} {xs ys : List ℕ}
     → PrintsReplacement t number side out m xs → PrintsReplacement t number side out n ys

@@ -1,9 +1,9 @@
 // Checks, translates or edits many texts and prints what the program prints for each, and an empty line after
 // it. On standard input each text comes after its head, eight hexadecimal digits and 0a: the first two are 00
 // for a model, which is checked, 01 for a process and a formula, which are translated, and 02 for a model of
-// which a right side is replaced; the last four are the length. Behind the head of 02 come three decimal digits
-// for the equation, and the new right side and 0a; the third and fourth digit of the head say how many bytes
-// it has.
+// which a right side is replaced; the last four are the length. Behind the head of 02 come three decimal
+// digits for the equation, and the new right side and 0a; the third and fourth digit of the head say how many
+// bytes it has.
 // README.md beside this folder says what the texts are and how the expected output was made.
 ghost use mathlib.Core.Path.{_≡_};
 ghost use lib.ListN.{length};

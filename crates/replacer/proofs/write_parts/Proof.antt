@@ -29,8 +29,7 @@ written c =
     let from = place + (2 * start .args .size + 1) in
     let rest = take-all (length text - from) (drop from text) (omega (arith, length-drop from text)) in
     let first = length-take-le place text (omega (arith, start .pre .0)) in
-    let last = rw rest at (c .before .before .put2 .ensures) in
-    parts-put first (begun c .put .ensures) (lined c .put-line .ensures) last
+    parts-put first (begun c .put .ensures) (lined c .put-line .ensures) (c .before .before .put2 .ensures) rest
     (omega (arith, length-drop from text, start .pre .0, start .pre .1))
 
 pub write-parts-spec : {M : Type 1} → statement M

@@ -18,4 +18,5 @@ pub replacement-of-spec : {M : Type 1} → statement M
 replacement-of-spec =
     tie.close
     (tie.spec (λ c κs. search needs) (λ c κs. search needs) (λ c. search needs) (λ c. search needs) (λ c. search needs)
-    (λ c. sym (length-take-le _ (c .before .before .before .words-buffer .result) (words-enough c))) (λ c κs. search needs) (λ c. search needs) (λ c. search needs))
+    (λ c. sym (length-take-le _ (c .before .before .before .words-buffer .result) (words-enough c))) (λ c κs. search needs)
+    (λ c. search needs) (λ c. search needs))

@@ -15,7 +15,8 @@ use Rattle.replacer.proofs.command.print_replacement.Tie as tie
 
 no-number : tie.Need-returns-2
 no-number c =
-    wrong-number _ _ _ (sym (c .before .is-number .ensures) ∙ not-true _ (c .if2 .taken)) (omega (arith, c .before .before .if1 .left))
+    wrong-number _ _ _ (sym (c .before .is-number .ensures) ∙ not-true _ (c .if2 .taken))
+    (omega (arith, c .before .before .if1 .left))
 
 no-bytes : tie.Need-returns-3
 no-bytes c =
