@@ -14,7 +14,8 @@ const HEADLINES: &str = "answers/specs/Demand1 answers/specs/Demand2 answers/spe
     frames/specs/RoundTrip reading/proofs/LineNumbers answers/specs/Samples checker/specs/Lent checker/specs/Promises
     meaning/specs/Looser meaning/specs/Counterexamples printing/specs/Promise printing/proofs/Answered
     translation/specs/Correct translation/specs/Sound translation/specs/Looser spelling/specs/ModelText
-    inputs/specs/Content translator/specs/Answers translator/specs/Printed translator/specs/Theorems";
+    inputs/specs/Content translator/specs/Answers translator/specs/Printed translator/specs/Theorems replacer/specs/Order replacer/specs/Theorems
+    replacer/specs/Samples";
 const LIBRARIES: &str = "mathlib lib mir Prim borrow native";
 const LANGUAGE: &str = "( ) { } [ ] ; , : = | ↦ → × λ ⌜ ⌝ _ ⊥ Type Unit tt abbrev unfoldable pub data record
     unfolding where let in elim absurd struct enum ensures requires now -> mut bool u8 u16 u32 u64 usize";

@@ -43,6 +43,14 @@ use Rattle.replacer.specs.Result.{line-replaced, result-joined, head-dig
 use Rattle.replacer.specs.Result.{places-before, places-behind}
 use Rattle.replacer.specs.Judged.{side-refusal, frames-there, frames-result, result-judged}
 
+-- ---- what is refused
+-- THEOREM: "what 01's order gives for the resulting text" is told by the new right side alone: 1 by the
+-- length of the text, and at the equation's line 3, 6 and 7; nothing else can be refused
+pub result-told : (t : List ℕ) (e : ℕ) (side : List ℕ) → text-refusal t .number ≡ 0
+    → e < length (equations-in (frames t .all)) → Small side
+    → text-refusal (replaced-text t e side) ≡ side-refusal t e side
+result-told t e side z h small = result-judged z (standing t e z h) side small
+
 -- ---- what is read
 -- the new frame of equation e, in its line
 abbrev pub new-frame : List ℕ → ℕ → List ℕ → Frame

@@ -16,6 +16,7 @@
 #include "../../reference/replace.h"
 #include "samples.h"
 #include "texts.h"
+#include "words.h"
 
 #include <stdbool.h>
 #include <stdio.h>
@@ -45,49 +46,27 @@ static void fail(const char *what, const struct task *t)
     exit(1);
 }
 
-static void print_word(const char *whose, uint64_t word)
-{
-    if (DEVASHTOR_REFUSED(word))
-        printf("replace.c: %s: refused by %u, line %u\n", whose, DEVASHTOR_NUMBER(word), DEVASHTOR_LINE(word));
-    else
-        printf("replace.c: %s: %llu bytes\n", whose, (unsigned long long)word);
-}
-
 /* One call of both with a buffer of this length. Both buffers are filled alike before, with FRONT bytes more in
    front, so all of them must be alike afterwards. */
 static uint64_t call(const struct task *t, size_t buffer)
 {
     static uint8_t plain[FRONT + PLENTY];
     uint8_t *from = text_end - t->length, *side = side_end - t->side_length, *out = out_end - buffer;
-    uint8_t salt = (uint8_t)texts_below(256);
     uint64_t word, due;
     memcpy(from, t->text, t->length);
     memcpy(side, t->side, t->side_length);
-    for (size_t i = 0; i < FRONT + buffer; i++)
-        plain[i] = out[(ptrdiff_t)i - FRONT] = (uint8_t)(i * 7 + (i >> 8) + salt);
+    words_fill(plain, out - FRONT, FRONT + buffer);
     word = devashtor_replace(from, t->length, t->equation, side, t->side_length, out, buffer);
     due = plain_replace(t->text, t->length, t->equation, t->side, t->side_length, plain + FRONT, buffer);
     calls++;
-    if (word != due) {
-        print_word("the archive", word);
-        print_word("the plain one", due);
+    if (!words_same("replace.c", word, due))
         fail("another word", t);
-    }
     if (memcmp(from, t->text, t->length) != 0)
         fail("the text was changed", t);
     if (memcmp(side, t->side, t->side_length) != 0)
         fail("the right side was changed", t);
     if (memcmp(out - FRONT, plain, FRONT + buffer) != 0)
         fail(DEVASHTOR_REFUSED(word) ? "a byte was touched, though refused," : "other bytes", t);
-    return word;
-}
-
-/* What the last call has written, or the line of its refusal. */
-static size_t shown(uint64_t word, size_t buffer, uint8_t *into)
-{
-    if (DEVASHTOR_REFUSED(word))
-        return (size_t)sprintf((char *)into, "06%02x%04x\n", DEVASHTOR_NUMBER(word), DEVASHTOR_LINE(word));
-    memcpy(into, out_end - buffer, word);
     return word;
 }
 
@@ -102,7 +81,7 @@ static int known_samples(const char *texts_name, const char *answers_name)
     samples_open(texts_name, answers_name);
     for (; (s = samples_next(SAMPLE_REPLACED)) != NULL; number++) {
         struct task t = {s->text, s->length, s->equation, s->side, s->side_length};
-        size_t length = shown(call(&t, REPLACE_MOST), REPLACE_MOST, answer);
+        size_t length = words_shown(call(&t, REPLACE_MOST), out_end - REPLACE_MOST, answer);
         if (length != s->answer_length || memcmp(answer, s->answer, length) != 0) {
             printf("replace.c: another answer than that of %s:\n%.*s", answers_name, (int)length, (const char *)answer);
             fail("it is given", &t);
@@ -196,11 +175,12 @@ static void must_come_back(const struct task *t, const uint8_t *result, size_t l
 static void must_forget(const struct task *t, const uint8_t *result, size_t length)
 {
     static uint8_t side[SIDE_MOST], answer[REPLACE_MOST], again[REPLACE_MOST];
-    size_t side_length = texts_next_side(t->equation, side), answer_length;
+    size_t side_length = texts_next_side(t->equation, side), answer_length, again_length;
     struct task once = {t->text, t->length, t->equation, side, side_length};
     struct task twice = {result, length, t->equation, side, side_length};
-    answer_length = shown(call(&once, PLENTY), PLENTY, answer);
-    if (shown(call(&twice, PLENTY), PLENTY, again) != answer_length || memcmp(answer, again, answer_length) != 0)
+    answer_length = words_shown(call(&once, PLENTY), out_end - PLENTY, answer);
+    again_length = words_shown(call(&twice, PLENTY), out_end - PLENTY, again);
+    if (again_length != answer_length || memcmp(answer, again, answer_length) != 0)
         fail("replacing twice is not replacing once by the second", &twice);
 }
 
@@ -316,7 +296,7 @@ static void try_task(const struct task *t, bool checked)
         call(t, texts_below(3) == 0 ? texts_below(100) : 0);
         return;
     }
-    shown(word, PLENTY, result);
+    words_shown(word, out_end - PLENTY, result);
     call(t, word);
     call(t, texts_below((unsigned)word));
     of_result[10] += DEVASHTOR_NUMBER(call(t, word - 1)) == 10;

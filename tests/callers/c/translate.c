@@ -16,6 +16,7 @@
 #include "../../reference/translate.h"
 #include "samples.h"
 #include "texts.h"
+#include "words.h"
 
 #include <stdio.h>
 #include <stdlib.h>
@@ -33,45 +34,24 @@ static void fail(const char *what, const uint8_t *text, size_t length)
     exit(1);
 }
 
-static void print_word(const char *whose, uint64_t word)
-{
-    if (DEVASHTOR_REFUSED(word))
-        printf("translate.c: %s: refused by %u, line %u\n", whose, DEVASHTOR_NUMBER(word), DEVASHTOR_LINE(word));
-    else
-        printf("translate.c: %s: %llu bytes\n", whose, (unsigned long long)word);
-}
-
 /* One call of both with a buffer of this length. Both buffers are filled alike before, with FRONT bytes more in
    front, so all of them must be alike afterwards. */
 static uint64_t call(const uint8_t *text, size_t length, size_t buffer)
 {
     static uint8_t plain[FRONT + PLENTY];
-    uint8_t *from = text_end - length, *out = out_end - buffer, salt = (uint8_t)texts_below(256);
+    uint8_t *from = text_end - length, *out = out_end - buffer;
     uint64_t word, due;
     memcpy(from, text, length);
-    for (size_t i = 0; i < FRONT + buffer; i++)
-        plain[i] = out[(ptrdiff_t)i - FRONT] = (uint8_t)(i * 7 + (i >> 8) + salt);
+    words_fill(plain, out - FRONT, FRONT + buffer);
     word = devashtor_translate(from, length, out, buffer);
     due = plain_translate(text, length, plain + FRONT, buffer);
     calls++;
-    if (word != due) {
-        print_word("the archive", word);
-        print_word("the plain one", due);
+    if (!words_same("translate.c", word, due))
         fail("another word", text, length);
-    }
     if (memcmp(from, text, length) != 0)
         fail("the text was changed", text, length);
     if (memcmp(out - FRONT, plain, FRONT + buffer) != 0)
         fail(DEVASHTOR_REFUSED(word) ? "a byte was touched, though refused," : "other bytes", text, length);
-    return word;
-}
-
-/* What the last call has written, or the line of its refusal. */
-static size_t shown(uint64_t word, size_t buffer, uint8_t *into)
-{
-    if (DEVASHTOR_REFUSED(word))
-        return (size_t)sprintf((char *)into, "06%02x%04x\n", DEVASHTOR_NUMBER(word), DEVASHTOR_LINE(word));
-    memcpy(into, out_end - buffer, word);
     return word;
 }
 
@@ -98,7 +78,7 @@ static int known_samples(const char *texts_name, const char *answers_name)
     samples_open(texts_name, answers_name);
     for (; (s = samples_next(SAMPLE_TRANSLATED)) != NULL; number++) {
         uint64_t word = call(s->text, s->length, TRANSLATE_MOST);
-        must_be(s->answer, s->answer_length, shown(word, TRANSLATE_MOST, answer));
+        must_be(s->answer, s->answer_length, words_shown(word, out_end - TRANSLATE_MOST, answer));
     }
     printf("translate.c: %zu samples, no difference\n", number);
     return number > 0 ? 0 : 1;
@@ -121,7 +101,7 @@ static int known_models(char **names)
         uint8_t *model = file_beside(names[number], ".model", &model_length);
         uint8_t *right = file_beside(names[number], ".answer", &answer_length);
         trying = names[number];
-        must_be(model, model_length, shown(call(text, length, TRANSLATE_MOST), TRANSLATE_MOST, answer));
+        must_be(model, model_length, words_shown(call(text, length, TRANSLATE_MOST), out_end - TRANSLATE_MOST, answer));
         must_be(right, answer_length, devashtor_check(model, model_length, answer, DEVASHTOR_ROOM));
         free(text);
         free(model);
@@ -169,7 +149,7 @@ static void try_text(const uint8_t *text, size_t length)
         call(text, length, texts_below(3) == 0 ? texts_below(100) : 0);
         return;
     }
-    shown(word, buffer, model);
+    words_shown(word, out_end - buffer, model);
     call(text, length, word);
     call(text, length, texts_below((unsigned)word));
     refusals[10] += DEVASHTOR_NUMBER(call(text, length, word - 1)) == 10;
