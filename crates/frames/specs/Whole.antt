@@ -11,7 +11,7 @@ use borrow.Author.Tests.{eqb-true, eqb-false, eq-eqb, le-leb, leb-true}
 use Rattle.meaning.specs.Logic.{cases}
 use Rattle.digits.specs.Digits.{is-digit, bytes-of}
 use Rattle.frames.specs.Lines.{Line, before, lines-of, joined, all-digits, line-refusal, place-of}
-use Rattle.frames.specs.Frames.{Frame, Frames, with-frame, stopped, frames-from, frames}
+use Rattle.frames.specs.Frames.{Frame, Frames, frames-from, frames}
 
 -- each of some lines is so
 pub data Each (P : Line → Type 0) : List Line → Type 0 where

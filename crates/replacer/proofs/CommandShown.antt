@@ -1,13 +1,12 @@
 -- What the command `replace` prints: nothing for wrong words, else the resulting text or the refusal's line.
 -- A number over 7 names no equation, and a right side of 16,385 bytes makes every text too long: what is printed
 -- hangs on no more of them.
-use Prim.Native.Nat.{ℕ, _+_, _*_, _/_, _≤_, _<_, min}
+use Prim.Native.Nat.{ℕ, _/_, _≤_, _<_, min}
 use native.Mathlib.Omega.{arith}
 use native.Mathlib.Decide.{decLe}
-use mathlib.Core.Path.{_≡_, refl, sym, ap, ap₂, subst, _∙_}
-use mathlib.Core.Bool.{Bool, true, false, cond, _&&_}
-use mathlib.Core.List.{List, []}
-use lib.Dec.{eqb, leb}
+use mathlib.Core.Path.{_≡_, refl, sym, ap, subst, _∙_}
+use mathlib.Core.Bool.{true, false, _&&_}
+use mathlib.Core.List.{List}
 use lib.ListN.{length, take}
 use lib.Seq.{length-take-le, take-all}
 use borrow.Author.Tests.{ne-eqb, le-leb}
@@ -21,7 +20,7 @@ use Rattle.reading.specs.Reading.{Refusal, refused, text-refusal}
 use Rattle.reading.proofs.LineNumbers.{long-text-one}
 use Rattle.reading.proofs.WellFormed.{text-passed}
 use Rattle.writing.specs.declared.Writing.{Writing}
-use Rattle.writing.specs.Printed.{printed, Prints, Shows}
+use Rattle.writing.specs.Printed.{printed, Shows}
 use Rattle.writing.proofs.Shown.{printed-short, prints}
 use Rattle.replacer.specs.Replaced.{replaced-text, replacement-refusal, Replaces}
 use Rattle.replacer.specs.Order.{Due, old-text, not-there, new-text, no-room, none, due-given, every-refusal}

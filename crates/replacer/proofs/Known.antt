@@ -13,7 +13,7 @@ use Rattle.meaning.specs.Ranges.{signatures}
 use Rattle.frames.specs.Lines.{line-place}
 use Rattle.frames.specs.Frames.{Frame, frames}
 use Rattle.formulas.specs.declared.Equation.{Equation}
-use Rattle.formulas.specs.Bodies.{blank, ranges-of, signatures-of, is-body, is-fitting}
+use Rattle.formulas.specs.Bodies.{blank, signatures-of, is-body, is-fitting}
 use Rattle.reading.specs.declared.Reading.{Reading}
 use Rattle.reading.specs.Equations.{ranges-in}
 use Rattle.reading.specs.Models.{equations-in, model-of}

@@ -4,7 +4,7 @@ use Prim.Native.Nat.{ℕ, _+_, _*_, _≤_}
 use native.Mathlib.Omega.{arith}
 use mathlib.Core.Path.{_≡_, ap, subst, _∙_}
 use mathlib.Core.List.{List, _++_}
-use lib.ListN.{length, length-append}
+use lib.ListN.{length}
 use lib.Seq.{sets, length-sets}
 use Rattle.frames.specs.Frames.{line-of}
 use Rattle.frames.specs.PutLine.{LinePut, Puts}

@@ -2,11 +2,11 @@
 -- What stands within the head is the same in both, and all that is read of a head stands within it.
 use Prim.Native.Nat.{ℕ, _+_, _≤_, _<_}
 use native.Mathlib.Omega.{arith}
-use mathlib.Core.Path.{_≡_, refl, sym, ap, _∙_}
-use mathlib.Core.Bool.{Bool, true, false, cond, _&&_}
-use mathlib.Core.List.{List, [], _∷_, _++_}
-use lib.Dec.{ltb, leb}
-use lib.ListN.{length, getD, take, drop, List·getD-append, length-append}
+use mathlib.Core.Path.{_≡_, refl, ap, _∙_}
+use mathlib.Core.Bool.{true, cond, _&&_}
+use mathlib.Core.List.{List, _++_}
+use lib.Dec.{ltb}
+use lib.ListN.{length, getD, take, List·getD-append, length-append}
 use lib.Seq.{length-take-le, getD-take, drop-at}
 use borrow.Author.Tests.{leb-true, le-leb, ltb-true}
 use Rattle.meaning.specs.Logic.{cases}

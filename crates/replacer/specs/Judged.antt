@@ -1,32 +1,30 @@
 -- THEOREM: what 01's order gives for the resulting text, told by the new right side alone.
 -- Everything else in the text was passed and is as it was, so only the equation's line can be refused, by 3,
 -- 6 or 7, or the whole text by 1.
-use Prim.Native.Nat.{ℕ, suc, _+_, _-_, _≤_, _<_}
+use Prim.Native.Nat.{ℕ, _+_, _-_, _≤_, _<_}
 use native.Mathlib.Omega.{arith}
 use mathlib.Core.Path.{_≡_, refl, sym, ap, subst, _∙_}
 use mathlib.Core.Bool.{Bool, true, false, cond}
-use mathlib.Core.List.{List, [], _∷_, _++_, append-nil}
-use lib.Dec.{eqb, leb}
-use lib.ListN.{length, getD, length-append}
-use borrow.Author.Tests.{leb-true, leb-false, le-leb, lt-leb}
+use mathlib.Core.List.{List, [], _∷_, _++_}
+use lib.Dec.{leb}
+use lib.ListN.{length, length-append}
+use borrow.Author.Tests.{leb-true, leb-false, le-leb}
 use Rattle.meaning.specs.Logic.{cases}
 use Rattle.meaning.specs.Ranges.{signatures}
-use Rattle.digits.specs.Digits.{bytes-of}
-use Rattle.frames.specs.Lines.{Line, lines-of}
-use Rattle.frames.specs.Frames.{Frame, Frames, stopped, frames-from, frames}
-use Rattle.frames.specs.Whole.{Each, and, Right, framed, framed-append, each-joined, RightText, frames-behind}
-use Rattle.frames.specs.Whole.{right-framed, text-framed}
+use Rattle.frames.specs.Frames.{Frame, stopped, frames-from, frames}
+use Rattle.frames.specs.Whole.{and, framed, framed-append, each-joined, RightText, frames-behind}
+use Rattle.frames.specs.Whole.{right-framed}
 use Rattle.formulas.specs.Bodies.{is-body, is-fitting}
 use Rattle.reading.specs.Equations.{ranges-in}
 use Rattle.reading.specs.Models.{model-of}
-use Rattle.reading.specs.Reading.{Refusal, refused, finished, frames-judged, text-refusal}
+use Rattle.reading.specs.Reading.{Refusal, refused, frames-judged, text-refusal}
 use Rattle.reading.proofs.Drafts.{frame-of}
 use Rattle.reading.proofs.LineNumbers.{long-text-one}
 use Rattle.reading.proofs.WellFormed.{Passed, text-passed}
 use Rattle.replacer.specs.Replaced.{equation-frame, head-size, replaced-text}
 use Rattle.replacer.specs.Heads.{frame-with}
 use Rattle.replacer.specs.Judging.{no-body, a-body, line-refused, new-finished}
-use Rattle.replacer.specs.Standing.{Standing, standing, frames-read}
+use Rattle.replacer.specs.Standing.{Standing, frames-read}
 use Rattle.replacer.specs.Result.{Small, bytes-there, line-there, head-there, new-line, new-lines}
 use Rattle.replacer.specs.Result.{result-lines, new-bytes, new-right, new-too-long}
 

@@ -1,25 +1,25 @@
 -- How frames are judged when the right side of one of them is another: all that was passed is passed again,
 -- and what is asked of the new right side is whether it is a body, and whether its instances fit.
 -- Frame by frame; what is asked of a frame hangs on how many equations stand before it and on the starts.
-use Prim.Native.Nat.{ℕ, suc, _+_, _≤_, _<_}
+use Prim.Native.Nat.{ℕ, suc, _+_, _<_}
 use native.Mathlib.Omega.{arith}
-use mathlib.Core.Path.{_≡_, refl, sym, ap, ap₂, _∙_}
-use mathlib.Core.Bool.{Bool, true, false, cond, _&&_}
+use mathlib.Core.Path.{_≡_, refl, sym, ap, _∙_}
+use mathlib.Core.Bool.{Bool, true, false, cond}
 use mathlib.Core.List.{List, [], _∷_, _++_, map, map-append, append-assoc, append-nil}
-use lib.Dec.{eqb, ltb}
-use lib.ListN.{length, getD, drop, length-append, List·getD-append}
+use lib.Dec.{eqb}
+use lib.ListN.{length, getD, length-append, List·getD-append}
 use lib.Seq.{drop-append-seam, drop-length, getD-append-add}
 use borrow.Author.Tests.{eqb-true, eqb-false, eq-eqb, lt-ltb}
 use Rattle.meaning.specs.Logic.{cases}
 use Rattle.meaning.specs.Models.{ModelEquation}
-use Rattle.meaning.specs.Ranges.{signatures, typed}
+use Rattle.meaning.specs.Ranges.{signatures}
 use Rattle.frames.specs.Frames.{Frame}
 use Rattle.formulas.specs.Bodies.{is-body, is-fitting}
 use Rattle.reading.specs.Equations.{ranges-in, body-in, is-valid-head, equation-of}
-use Rattle.reading.specs.Models.{frames-with, equations-in, starts-in, is-none, first-of, model-of, start-in}
+use Rattle.reading.specs.Models.{frames-with, equations-in, starts-in, is-none, first-of, model-of}
 use Rattle.reading.specs.Reading.{Refusal, refused, equation-refusal, frame-refusal, instances-judged}
 use Rattle.reading.specs.Reading.{start-judged, finished, frames-judged}
-use Rattle.reading.proofs.Drafts.{EquationSound, no-frame, frame-of, refusal-after, frames-more}
+use Rattle.reading.proofs.Drafts.{no-frame, frame-of, refusal-after, frames-more}
 use Rattle.reading.proofs.Drafts.{equation-passed}
 use Rattle.reading.proofs.Finishing.{judged-on}
 use Rattle.reading.proofs.WellFormed.{Passed}

@@ -1,11 +1,10 @@
 -- What the resulting text is: its lines, its length, the places of its lines, and how the old text is cut.
 -- The lines before the equation's and those behind it are as they were; a text is its lines, put together.
-use Prim.Native.Nat.{ℕ, zero, suc, _+_, _-_, _*_, _/_, _%_, _≤_, _<_}
+use Prim.Native.Nat.{ℕ, zero, suc, _+_, _-_, _*_, _≤_, _<_}
 use native.Mathlib.Omega.{arith}
 use mathlib.Core.Path.{_≡_, refl, sym, ap, ap₂, _∙_}
-use mathlib.Core.Bool.{Bool, true, false, cond}
+use mathlib.Core.Bool.{true}
 use mathlib.Core.List.{List, [], _∷_, _++_, append-assoc}
-use lib.Dec.{eqb, leb}
 use lib.ListN.{length, getD, take, drop, set, length-append, length-drop, take-append-drop}
 use lib.Seq.{length-take-le, set-at, getD-at, take-at, drop-at, drop-drop, append-snoc}
 use borrow.Author.Tests.{le-leb, lt-leb}
@@ -13,16 +12,16 @@ use Rattle.digits.specs.Digits.{bytes-of, characters}
 use Rattle.digits.proofs.Pairs.{length-bytes, bytes-append, bytes-take}
 use Rattle.digits.proofs.Written.{bytes-read, length-characters}
 use Rattle.frames.specs.Lines.{Line, lines-of, joined, all-digits, line-refusal, place-of, line-place}
-use Rattle.frames.specs.Frames.{Frame, frames, line-of}
+use Rattle.frames.specs.Frames.{line-of}
 use Rattle.frames.specs.Written.{line-length}
-use Rattle.frames.specs.Whole.{Each, none, and, Whole, Right, each-joined, rights-whole, digits-append}
+use Rattle.frames.specs.Whole.{Each, and, Whole, Right, each-joined, rights-whole, digits-append}
 use Rattle.frames.specs.Whole.{digits-take}
 use Rattle.frames.specs.Whole.{joined-lines, lines-joined, joined-append, place-behind}
 use Rattle.frames.specs.RoundTrip.{digits-written}
 use Rattle.reading.specs.Equations.{body-in}
 use Rattle.reading.proofs.Drafts.{frame-of}
-use Rattle.replacer.specs.Replaced.{equation-frame, head-size, with-side, lines-replaced, replaced-text}
-use Rattle.replacer.specs.Heads.{frame-with, head-whole, frame-length}
+use Rattle.replacer.specs.Replaced.{head-size, with-side, lines-replaced, replaced-text}
+use Rattle.replacer.specs.Heads.{frame-with, head-whole}
 use Rattle.replacer.specs.Standing.{Standing}
 
 -- every one of some bytes is a byte

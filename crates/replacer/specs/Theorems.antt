@@ -1,30 +1,29 @@
 -- THEOREMS about a text with one right side replaced: what is read of it, when it is the old text, that
 -- replacing twice is replacing once, and that a looser right side keeps every yes.
 -- The lines are parted at the equation's; what stands before and behind it is the same list in both texts.
-use Prim.Native.Nat.{ℕ, zero, suc, _+_, _-_, _*_, _/_, _%_, _≤_, _<_}
+use Prim.Native.Nat.{ℕ, _+_, _-_, _*_, _≤_, _<_}
 use native.Mathlib.Omega.{arith}
 use mathlib.Core.Path.{_≡_, refl, sym, ap, ap₂, subst, _∙_}
-use mathlib.Core.Bool.{Bool, true, false, cond}
+use mathlib.Core.Bool.{true, false}
 use mathlib.Core.List.{List, [], _∷_, _++_, map}
 use lib.Dec.{eqb, leb}
-use lib.ListN.{length, getD, take, drop, set, length-append, length-drop, length-map, take-append-drop}
-use lib.Seq.{set-at, set-set, getD-at, getD-set-same, take-at, length-take-le}
-use borrow.Author.Tests.{leb-true}
+use lib.ListN.{length, getD, take, drop, set, length-map, length-set, take-append-drop}
+use lib.Seq.{set-at, getD-set-same, take-at}
+use borrow.Author.Tests.{leb-true, eq-eqb}
 use Rattle.meaning.specs.Formulas.{Formula}
 use Rattle.meaning.specs.Models.{ModelEquation, model-equation, Model}
 use Rattle.meaning.specs.Ranges.{signatures}
 use Rattle.meaning.specs.Looser.{Loosens, Looser-equations, no-equations, looser, Looser}
-use Rattle.digits.specs.Digits.{bytes-of, characters}
-use Rattle.digits.proofs.Pairs.{length-bytes, bytes-small}
+use Rattle.digits.specs.Digits.{characters}
 use Rattle.digits.proofs.Written.{characters-drop}
-use Rattle.frames.specs.Lines.{Line, lines-of, joined, place-of, line-place}
+use Rattle.frames.specs.Lines.{Line, lines-of, joined, line-place}
 use Rattle.frames.specs.Frames.{Frame, Frames, frames}
-use Rattle.frames.specs.Whole.{Right, framed, joined-lines, text-right}
+use Rattle.frames.specs.Whole.{framed, joined-lines}
 use Rattle.frames.specs.RoundTrip.{characters-read}
-use Rattle.formulas.specs.Bodies.{formula-of, is-body, is-fitting}
+use Rattle.formulas.specs.Bodies.{formula-of}
 use Rattle.reading.specs.Equations.{ranges-in, body-in, equation-of}
-use Rattle.reading.specs.Models.{frames-with, equations-in, starts-in, first-of, model-of, start-in}
-use Rattle.reading.specs.Reading.{Refusal, refused, text-refusal}
+use Rattle.reading.specs.Models.{frames-with, equations-in, first-of, model-of}
+use Rattle.reading.specs.Reading.{Refusal, text-refusal}
 use Rattle.reading.proofs.Drafts.{frame-of}
 use Rattle.reading.proofs.Refusals.{passed}
 use Rattle.answers.specs.Answers.{the-model, the-start, list, answer}
@@ -37,7 +36,7 @@ use Rattle.replacer.specs.Heads.{frame-with, head-whole, same-code, same
 use Rattle.replacer.specs.Heads.{same-ranges, new-body}
 use Rattle.replacer.specs.Judging.{equation-from, equations-split, others-split, model-split}
 use Rattle.replacer.specs.Standing.{Standing, standing}
-use Rattle.replacer.specs.Result.{Small, bytes-there, line-there, head-there, new-line, new-lines}
+use Rattle.replacer.specs.Result.{Small, bytes-there, line-there, head-there, new-line}
 use Rattle.replacer.specs.Result.{result-lines}
 use Rattle.replacer.specs.Result.{line-replaced, result-joined, head-digits, old-length, new-length}
 use Rattle.replacer.specs.Result.{places-before, places-behind}
@@ -79,21 +78,22 @@ looser-at declared (y ∷ xs) ys x f h = looser (λ g. g) (λ θ o x i h. h) (lo
 -- ---- a text that is written, whatever the buffer's length
 module _ (t : List ℕ) (e : ℕ) (side : List ℕ) (room : ℕ) (small : Small side)
     (z : replacement-refusal t e side room .number ≡ 0) where
-  a : Accepted t e side room
-  a = written-exactly t e side room .0 z
+  accepted : Accepted t e side room
+  accepted = written-exactly t e side room .0 z
 
   abbrev result : List ℕ
   result = replaced-text t e side
 
   there : Standing t e
-  there = standing t e (a .read) (a .there)
+  there = standing t e (accepted .read) (accepted .there)
 
   -- what is not refused by 1 and 3
   asked : (length result ≤ 32768) × (head-there there + length side ≤ 256)
   unfolding side-refusal
   asked =
       let none : side-refusal t e side .number ≡ 0 =
-      ap (λ (r : Refusal). r .number) (sym (result-judged (a .read) there side small)) ∙ a .result in
+      ap (λ (r : Refusal). r .number) (sym (result-judged (accepted .read) there side small)) ∙
+      accepted .result in
       let one = passed (λ (r : Refusal). r .number) (leb (length result) 32768) none (omega arith) in
       let three = passed (λ (r : Refusal). r .number)
       (leb (head-size (equation-frame t e .bytes) + length side) 256)
@@ -112,14 +112,14 @@ module _ (t : List ℕ) (e : ℕ) (side : List ℕ) (room : ℕ) (small : Small 
     number = 0;
     line = frames t .line;
   }
-  result-frames = frames-result (a .read) there side small (asked .0) (asked .1)
+  result-frames = frames-result (accepted .read) there side small (asked .0) (asked .1)
 
   result-all : frames result .all ≡ before ++
       (frame-of (line-there there) (frame-with (bytes-there there) side) ∷ after)
   result-all = ap (λ (r : Frames). r .all) result-frames
 
   old-all : frames t .all ≡ before ++ (frame-of (line-there there) (bytes-there there) ∷ after)
-  old-all = frames-there (a .read) there
+  old-all = frames-there (accepted .read) there
 
   new-code : getD (frame-with (bytes-there there) side) 0 0 ≡ 1
   new-code = same-code (bytes-there there) side (head-whole (bytes-there there) (there .valid)) ∙ there .code
@@ -294,3 +294,14 @@ module _ (t : List ℕ) (e : ℕ) (first second : List ℕ) (room : ℕ) (small 
       text-as : {f : Frame} {ls : List Line} → equation-frame once e ≡ f → lines-of once ≡ ls
           → replaced-text once e second ≡ joined (lines-replaced f second ls)
       text-as p q = ap₂ (λ (f : Frame) (ls : List Line). joined (lines-replaced f second ls)) p q
+
+  -- and it is refused as that is
+  pub twice-refused-as-once : (room′ : ℕ)
+      → replacement-refusal once e second room′ ≡ replacement-refusal t e second room′
+  unfolding replacement-refusal
+  twice-refused-as-once room′ =
+      let a = written-exactly t e first room .0 z in
+      let equations = equations-in (frames t .all) in
+      let count = ap length (replaced-equations t e first room small z) ∙
+      length-set equations e (new-frame t e first) in
+      rw (eq-eqb _ 0 (a .read), eq-eqb _ 0 (a .result), twice-is-once, count) refl

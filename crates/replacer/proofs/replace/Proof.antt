@@ -1,9 +1,9 @@
 -- `replacer::replace` meets its contract.
 -- Each way out is one of the refusals that are due, in their order; else the text is cut and written.
-use Prim.Native.Nat.{ℕ, _+_, _-_, _*_, _≤_, _<_, min}
+use Prim.Native.Nat.{ℕ, _+_, _-_, _*_, _<_, min}
 use native.Mathlib.Omega.{arith}
-use mathlib.Core.Path.{_≡_, refl, sym, ap, _∙_}
-use lib.ListN.{length, getD}
+use mathlib.Core.Path.{_≡_, ap}
+use lib.ListN.{length}
 use borrow.Author.Needs.{needs}
 use Rattle.replacer.specs.Result.{Small}
 use Rattle.replacer.proofs.Known as known

@@ -1,9 +1,9 @@
 -- `replacer::write_parts` meets its contract.
 -- What is put part after part, each from the place where the one before it ends, is put as a whole.
-use Prim.Native.Nat.{_+_, _-_, _*_, _≤_}
+use Prim.Native.Nat.{_+_, _-_, _*_}
 use native.Mathlib.Omega.{arith}
-use mathlib.Core.Path.{_≡_, sym, ap, _∙_}
-use lib.ListN.{length, take, drop, length-drop}
+use mathlib.Core.Path.{sym}
+use lib.ListN.{length, drop, length-drop}
 use lib.Seq.{length-take-le, take-all}
 use borrow.Author.Needs.{needs}
 use Rattle.replacer.proofs.PartsPut.{parts-put}

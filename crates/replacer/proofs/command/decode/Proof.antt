@@ -1,9 +1,8 @@
 -- `replacer::command::decode` meets its contract.
 -- The bytes before the present one are there.
-use Prim.Native.Nat.{_-_, min}
+use Prim.Native.Nat.{_-_}
 use native.Mathlib.Omega.{arith}
 use mathlib.Core.Path.{_≡_, refl}
-use lib.ListN.{length}
 use borrow.Author.Needs.{needs}
 use Rattle.replacer.proofs.CommandWords.{Decoding, decoding-more}
 use Rattle.replacer.proofs.command.decode.Statement.{statement}

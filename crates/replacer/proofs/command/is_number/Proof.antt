@@ -2,9 +2,8 @@
 -- What is left to look at decides.
 use Prim.Native.Nat.{_-_, _≤_}
 use native.Mathlib.Omega.{arith}
-use mathlib.Core.Path.{_≡_, refl, sym, _∙_}
+use mathlib.Core.Path.{_≡_, refl, _∙_}
 use lib.ListN.{length, drop}
-use borrow.Author.Needs.{needs}
 use borrow.Author.Tests.{le-leb}
 use Rattle.replacer.specs.Printed.{all-decimal}
 use Rattle.replacer.proofs.CommandWords.{decimal-none, decimal-low, decimal-high, decimal-yes}

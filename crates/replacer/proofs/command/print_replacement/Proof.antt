@@ -1,8 +1,8 @@
 -- `replacer::command::print_replacement` meets its contract.
 -- The words are judged; then the reply is shown, and what is printed is that for the words as they are.
-use Prim.Native.Nat.{ℕ, _/_, _≤_, min}
+use Prim.Native.Nat.{ℕ, _/_, min}
 use native.Mathlib.Omega.{arith}
-use mathlib.Core.Path.{_≡_, sym, ap, _∙_}
+use mathlib.Core.Path.{sym, ap, _∙_}
 use lib.ListN.{length, take}
 use lib.Seq.{length-take-le}
 use borrow.Author.Needs.{needs}
