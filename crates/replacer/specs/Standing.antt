@@ -39,25 +39,26 @@ unfolding framed frames-with
 found-here i l ls e =
     record { before = []; line = l; after = ls; is = refl; number = refl; code = eqb-true _ 1 e }
 
+-- one line more in front, an equation's or another's
+counted : (b : Bool) (f : Frame) (fs : List Frame) (n : ℕ) → length fs ≡ n
+    → length (cond b (f ∷ fs) fs) ≡ cond b (suc n) n
+counted true f fs n q = ap suc q
+counted false f fs n q = q
+
 one-more : {i e : ℕ} (l : Line) {ls : List Line} (b : Bool) → is-equation l ≡ b → Parted (i + 1) e ls
     → Parted i (cond b (suc e) e) (l ∷ ls)
 unfolding framed frames-with
-one-more l true h p = record {
-  before = l ∷ p .before;
-  line = p .line;
-  after = p .after;
-  is = ap (λ (ls : List Line). l ∷ ls) (p .is);
-  number = rw h (ap suc (p .number));
-  code = p .code;
-}
-one-more l false h p = record {
-  before = l ∷ p .before;
-  line = p .line;
-  after = p .after;
-  is = ap (λ (ls : List Line). l ∷ ls) (p .is);
-  number = rw h (p .number);
-  code = p .code;
-}
+one-more {i} {e} l b h p =
+    let f = frame-of i (bytes-of (l .characters)) in
+    let fs = equations-in (framed (i + 1) (p .before)) in
+    record {
+      before = l ∷ p .before;
+      line = p .line;
+      after = p .after;
+      is = ap (λ (ls : List Line). l ∷ ls) (p .is);
+      number = rw h (counted b f fs e (p .number));
+      code = p .code;
+    }
 
 parted : (i e : ℕ) (ls : List Line) → e < length (equations-in (framed i ls)) → Parted i e ls
 unfolding framed frames-with
