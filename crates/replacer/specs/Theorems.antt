@@ -23,7 +23,7 @@ use Rattle.frames.specs.RoundTrip.{characters-read}
 use Rattle.formulas.specs.Bodies.{formula-of}
 use Rattle.reading.specs.Equations.{ranges-in, body-in, equation-of}
 use Rattle.reading.specs.Models.{frames-with, equations-in, first-of, model-of}
-use Rattle.reading.specs.Reading.{Refusal, text-refusal}
+use Rattle.reading.specs.Reading.{Refusal, refused, text-refusal}
 use Rattle.reading.proofs.Drafts.{frame-of}
 use Rattle.reading.proofs.Refusals.{passed}
 use Rattle.answers.specs.Answers.{the-model, the-start, list, answer}
@@ -31,7 +31,7 @@ use Rattle.answers.specs.Demand3.{looser-text-holds, looser-text-bits}
 use Rattle.truth.specs.Bits.{bit-of}
 use Rattle.replacer.specs.Replaced.{equation-frame, head-size, with-side, lines-replaced, replaced-text}
 use Rattle.replacer.specs.Replaced.{replacement-refusal}
-use Rattle.replacer.specs.Order.{Accepted, written-exactly}
+use Rattle.replacer.specs.Order.{none, due-given, Accepted, written-exactly}
 use Rattle.replacer.specs.Heads.{frame-with, head-whole, same-code, same-sign, same-count}
 use Rattle.replacer.specs.Heads.{same-ranges, new-body}
 use Rattle.replacer.specs.Judging.{equation-from, equations-split, others-split, model-split}
@@ -91,10 +91,10 @@ module _ (t : List ℕ) (e : ℕ) (side : List ℕ) (room : ℕ) (small : Small 
   asked : (length result ≤ 32768) × (head-there there + length side ≤ 256)
   unfolding side-refusal
   asked =
-      let none : side-refusal t e side .number ≡ 0 =
+      let passes : side-refusal t e side .number ≡ 0 =
       ap (λ (r : Refusal). r .number) (sym (result-judged (accepted .read) there side small)) ∙
       accepted .result in
-      let one = passed (λ (r : Refusal). r .number) (leb (length result) 32768) none (omega arith) in
+      let one = passed (λ (r : Refusal). r .number) (leb (length result) 32768) passes (omega arith) in
       let three = passed (λ (r : Refusal). r .number)
       (leb (head-size (equation-frame t e .bytes) + length side) 256)
       (one .1) (omega arith) in
@@ -256,6 +256,14 @@ same-bytes t e z h =
     body ∙ result-joined there (body-in f) ∙
     ap (λ (l : List ℕ). joined (there .before ++ (with-digits l ∷ there .after))) line ∙
     ap joined (sym (there .is)) ∙ joined-lines t
+
+-- and it is written, into every buffer that is long enough
+pub same-bytes-written : (t : List ℕ) (e room : ℕ) → text-refusal t .number ≡ 0
+    → e < length (equations-in (frames t .all)) → length t ≤ room
+    → replacement-refusal t e (body-in (equation-frame t e .bytes)) room ≡ refused 0 0
+same-bytes-written t e room z h enough =
+    let same = same-bytes t e z h in
+    due-given (none z h (rw same z) (rw same enough))
 
 -- ---- twice
 -- THEOREM: replacing twice is replacing once by the second, whatever the second is
