@@ -22,7 +22,7 @@ use Rattle.checker.specs.declared.Prepared.{Prepared}
 use Rattle.checker.specs.Records.{record-of, records-of, records-after, read-answer}
 use Rattle.checker.specs.Records.{records-after-read, records-after-check}
 use Rattle.checker.specs.Prepared.{overwritten, prepared, Fills, ReadPrepared, CheckPrepared}
-use Rattle.checker.proofs.Lists.{map-take}
+use Rattle.meaning.specs.Mapped.{map-take}
 
 chosen : (verdict : Bool) (model : Model) (records : List Record)
     → overwritten (cond verdict (model .count) 0) (map record-of (model .equations)) records

@@ -1,9 +1,9 @@
 -- A list that is overwritten from its first place on: with one more, in its length, and whole.
 -- They hold for lists of anything, by the library's laws of a copy (`paste`) to place 0.
-use mathlib.Core.Path.{_≡_, refl, ap}
-use Prim.Native.Nat.{ℕ, zero, suc, _+_, _<_, _≤_}
+use mathlib.Core.Path.{_≡_}
+use Prim.Native.Nat.{ℕ, _+_, _<_, _≤_}
 use native.Mathlib.{Nat.zero-add, Numerals.add-one, Omega.arith}
-use mathlib.Core.List.{List, [], _∷_, _++_, map, append-nil}
+use mathlib.Core.List.{List, _++_, append-nil}
 use lib.ListN.{length, getD, set, take, drop}
 use lib.Seq.{take-all, drop-length, paste-suc, length-paste}
 
@@ -18,8 +18,3 @@ module _ {A : Type 0} where
 
   pub overwritten-all : (n : ℕ) (es ys : List A) → length es ≡ n → length ys ≡ n → take n es ++ drop n ys ≡ es
   overwritten-all n es ys l m = rw (← m, drop-length, append-nil) (take-all (length ys) es (omega arith))
-
-  pub map-take : {B : Type 0} (f : A → B) (n : ℕ) (l : List A) → map f (take n l) ≡ take n (map f l)
-  map-take f zero l = refl
-  map-take f (suc n) [] = refl
-  map-take f (suc n) (x ∷ l) = ap (λ r. f x ∷ r) (map-take f n l)
