@@ -49,7 +49,7 @@ uint64_t devashtor_translate(const uint8_t *text, size_t text_length, uint8_t *o
 /* Writes the model in text[0 .. text_length) into `out` with the right side of one equation replaced, and gives the
    number of bytes written; the bytes of `out` after them stay as they were. Equations number from 0;
    side[0 .. side_length) are the bytes of the new right side themselves (the formula), not their digits. They are
-   written in small letters; every other character stays, notes included.
+   written in small letters; every other character stays, capitals and notes included.
    On a refusal it gives 2^63 + number * 2^32 + line and `out` stays untouched: first what the old text is refused by,
    1 to 8; then 19, line 0, where it has no such equation; then what the new text is refused by, 1 to 8; last 10,
    line 0, where `out` is shorter than the new text. Any bytes are a text and a right side, any number an equation's.

@@ -15,7 +15,8 @@ const HEADLINES: &str = "answers/specs/Demand1 answers/specs/Demand2 answers/spe
     meaning/specs/Looser meaning/specs/Counterexamples printing/specs/Promise printing/proofs/Answered
     translation/specs/Correct translation/specs/Sound translation/specs/Looser spelling/specs/ModelText
     inputs/specs/Content translator/specs/Answers translator/specs/Printed translator/specs/Theorems replacer/specs/Order replacer/specs/Theorems
-    replacer/specs/Samples";
+    replacer/specs/Samples digits/proofs/Letters frames/specs/Letters reading/specs/Letters answers/specs/Letters
+    translator/specs/Letters replacer/specs/Letters checker/specs/Letters";
 const LIBRARIES: &str = "mathlib lib mir Prim borrow native";
 const LANGUAGE: &str = "( ) { } [ ] ; , : = | ↦ → × λ ⌜ ⌝ _ ⊥ Type Unit tt abbrev unfoldable pub data record
     unfolding where let in elim absurd struct enum ensures requires now -> mut bool u8 u16 u32 u64 usize";

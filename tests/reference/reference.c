@@ -145,6 +145,8 @@ static int worth(uint8_t character)
         return character - '0';
     if (character >= 'a' && character <= 'f')
         return character - 'a' + 10;
+    if (character >= 'A' && character <= 'F')
+        return character - 'A' + 10;
     return -1;
 }
 

@@ -39,7 +39,7 @@ int main(int arguments, char **argument)
     uint8_t *side;
     uint64_t word;
     if (arguments != 3 || *argument[1] == 0 || !made_of(argument[1], "0123456789") ||
-        !made_of(argument[2], "0123456789abcdef") || (digits = strlen(argument[2])) % 2 == 1)
+        !made_of(argument[2], "0123456789abcdefABCDEF") || (digits = strlen(argument[2])) % 2 == 1)
         return 0;
     side = malloc(digits / 2 + 1);
     if (side == NULL) {

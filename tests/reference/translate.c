@@ -20,8 +20,9 @@ static unsigned lines;
 
 static int worth(uint8_t character)
 {
-    if (character >= 'a' && character <= 'f')
-        return character - 'a' + 10;
+    int letter = character | 32; /* a capital and its small letter differ in this bit */
+    if (letter >= 'a' && letter <= 'f')
+        return letter - 'a' + 10;
     return character >= '0' && character <= '9' ? character - '0' : -1;
 }
 

@@ -104,6 +104,14 @@ samples =
     (full (holds-with 1 1 0b1) (0 ∷ [])) ∷
     sample "0200\n" "06040001\n"
     (full (refusal 4 1) []) ∷
+    -- request 2026-02: "The 01 case `0100001A0000/0200` now fails, 1, 0"; both cases in one byte; a letter
+    -- past F
+    sample "0100001A0000\n0200\n" "040000\n050000010000\n"
+    (full (fails-with 1 0 0b0) (0 ∷ [])) ∷
+    sample "03aBFf\n0101001A0000\n0200\n" "040001\n050100010001\n"
+    (full (holds-with 1 1 0b1) (0 ∷ [])) ∷
+    sample "0100001G0000\n0200\n" "06020001\n"
+    (full (refusal 2 1) []) ∷
     []
 
 -- the words that are lent, as they were
@@ -124,7 +132,8 @@ outcome s = (printed (bytes (s .text)), map (given (bytes (s .text))) (s .lendin
 abbrev pub expected : Sample → List ℕ × List (Answer × List ℕ)
 expected s = (bytes (s .output), map promised (s .lendings))
 
--- every sample marked P has the output, the answer and the table that document 01 gives
+-- every sample marked P has the output, the answer and the table that document 01 gives, and those of request
+-- 2026-02 what it gives
 pub samples-computed : map outcome samples ≡ map expected samples
 unfolding bytes-from bytes _and_ _or_ _⇒_ join over same mem all every some least greatest solution sum
     difference value holds spread in-range system meaning join-simplified simplified leaves instances

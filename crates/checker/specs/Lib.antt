@@ -2,3 +2,4 @@ pub mod Records
 pub mod Promises
 pub mod Prepared
 pub mod Lent
+pub mod Letters

@@ -3,3 +3,4 @@ pub mod WorthTable
 pub mod Pairs
 pub mod Filled
 pub mod Written
+pub mod Letters

@@ -1,7 +1,7 @@
 -- What is written in digits is read back: a digit, the two digits of a byte, the characters of some bytes; and a
--- digit that is read is written back as it was. One test each, computed at all numbers there are.
+-- digit that is read is written in small letters. One test each, computed at all numbers there are.
 use mathlib.Core.Path.{_≡_, refl, sym, ap, ap₂, subst, _∙_}
-use mathlib.Core.Bool.{Bool, true, false, cond, and-false, true≢false}
+use mathlib.Core.Bool.{Bool, true, cond}
 use mathlib.Core.List.{List, [], _∷_}
 use Prim.Native.Nat.{ℕ, zero, suc, _+_, _*_, _/_, _%_, _≤_, _<_}
 use native.Mathlib.Omega.{arith}
@@ -9,9 +9,11 @@ use native.Mathlib.Decide.{decLt}
 use lib.Dec.{T, leb, eqb, eqb→eq}
 use lib.ListN.{length, getD, drop, replicate, length-append}
 use lib.Seq.{drop-nil}
-use borrow.Author.Tests.{le-leb, lt-leb, leb-true}
+use borrow.Author.Tests.{le-leb, leb-true}
 use Rattle.digits.specs.Digits.{worth-of, is-digit, pair-of, digit-of, digits-of, bytes-of, characters}
+use Rattle.digits.specs.Digits.{small-letter}
 use Rattle.digits.proofs.Table.{at}
+use Rattle.digits.proofs.Letters.{past-bytes}
 
 digit-back : ℕ → ℕ → Bool
 digit-back n x = eqb (worth-of (digit-of n)) n
@@ -37,23 +39,17 @@ bytes-read (b ∷ bs) h = ap₂ (λ (c : ℕ) (cs : List ℕ). c ∷ cs) (digits
 
 -- ---- the other way round
 
-as-it-was : ℕ → ℕ → Bool
-as-it-was c x = cond (is-digit c) (eqb (digit-of (worth-of c)) c) true
+-- written, a digit is in small letters
+as-small : ℕ → ℕ → Bool
+as-small c x = cond (is-digit c) (eqb (digit-of (worth-of c)) (small-letter c)) true
 
--- no character past a byte is a digit
-past-bytes : (c : ℕ) → 256 ≤ c → is-digit c ≡ false
-past-bytes c h =
-    let l : 57 < c = omega arith in
-    let m : 102 < c = omega arith in
-    simp (lt-leb c 57, lt-leb c 102, and-false)
-
-pub digit-written : (c : ℕ) → is-digit c ≡ true → digit-of (worth-of c) ≡ c
-unfolding as-it-was
+pub digit-written : (c : ℕ) → is-digit c ≡ true → digit-of (worth-of c) ≡ small-letter c
+unfolding as-small
 digit-written c d = elim (decLt c 256) [
   | yes h ↦
-      let test : Bool → Type 0 = λ (b : Bool). T (cond b (eqb (digit-of (worth-of c)) c) true) in
-      eqb→eq _ c (subst test d (at as-it-was (replicate 256 0) tt c h))
-  | no h ↦ absurd (true≢false (sym d ∙ past-bytes c (omega arith)))
+      let test : Bool → Type 0 = λ (b : Bool). T (cond b (eqb (digit-of (worth-of c)) (small-letter c)) true) in
+      eqb→eq _ (small-letter c) (subst test d (at as-small (replicate 256 0) tt c h))
+  | no h ↦ absurd (omega (arith, past-bytes c (omega arith), leb-true (worth-of c) 15 d))
 ]
 
 -- the byte of two digits has these
@@ -65,7 +61,7 @@ pair-digits w v p q =
     ap digits-of pair ∙ rw (high, low) refl
 
 pub pair-written : (c d : ℕ) → is-digit c ≡ true → is-digit d ≡ true
-    → digits-of (pair-of (worth-of c) (worth-of d)) ≡ c ∷ d ∷ []
+    → digits-of (pair-of (worth-of c) (worth-of d)) ≡ small-letter c ∷ small-letter d ∷ []
 pair-written c d p q =
     pair-digits (worth-of c) (worth-of d) (leb-true _ _ p) (leb-true _ _ q) ∙
     ap₂ (λ (x y : ℕ). x ∷ y ∷ []) (digit-written c p) (digit-written d q)

@@ -4,5 +4,6 @@ pub mod FrameAt
 pub mod PutLine
 pub mod Written
 pub mod Whole
+pub mod Letters
 pub mod RoundTrip
 pub mod OneReply

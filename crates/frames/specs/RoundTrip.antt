@@ -1,20 +1,22 @@
--- THEOREMS: frames that are written are read as they were, and a text that is read is written as it was.
--- A text and its lines tell each other, and so do the characters of a line and its bytes.
+-- THEOREMS: frames that are written are read as they were; a text that is read is written in small letters.
+-- A text and its lines tell each other; the bytes of a line tell its characters but for the case of letters.
 use Prim.Native.Nat.{ℕ, zero, suc, _+_, _*_, _/_, _%_, _≤_, _<_}
 use native.Mathlib.Omega.{arith}
 use mathlib.Core.Path.{_≡_, refl, sym, ap, ap₂, _∙_}
+use mathlib.Core.Logic.{_↔_}
 use mathlib.Core.Bool.{true, and-eq-true-iff}
 use mathlib.Core.List.{List, [], _∷_, _++_, map}
-use lib.ListN.{length, getD}
+use lib.ListN.{length, getD, length-map}
 use lib.Seq.{append-snoc}
 use borrow.Author.Tests.{eq-eqb, le-leb}
-use Rattle.digits.specs.Digits.{is-digit, bytes-of, characters}
+use Rattle.digits.specs.Digits.{is-digit, bytes-of, characters, small-letter, in-small-letters}
 use Rattle.digits.proofs.Pairs.{length-bytes, bytes-small}
 use Rattle.digits.proofs.Written.{digit-is-digit, bytes-read, pair-written, length-characters}
 use Rattle.frames.specs.Lines.{Line, lines-of, joined, all-digits, line-refusal}
 use Rattle.frames.specs.Frames.{Frame, Frames, frames-from, frames, line-of, text-of}
 use Rattle.frames.specs.Whole.{Each, none, and, Right, framed, joined-lines, text-right, text-framed}
 use Rattle.frames.specs.Written.{written-line, written-lines}
+use Rattle.frames.specs.Letters.{line-in-small, joined-in-small, frames-in-small}
 
 -- some bytes that a line can hold: at least one and, as "over 512 digits" is refused, at most 256
 pub record Writable (bytes : List ℕ) : Type 0 where
@@ -77,8 +79,9 @@ written-read fs w short =
 
 -- ---- read, then written
 
--- small letters only are digits, so the characters are as they were
-pub characters-read : (s : List ℕ) → all-digits s ≡ true → length s % 2 ≡ 0 → characters (bytes-of s) ≡ s
+-- the characters are as they were, in small letters
+pub characters-read : (s : List ℕ) → all-digits s ≡ true → length s % 2 ≡ 0
+    → characters (bytes-of s) ≡ in-small-letters s
 unfolding all-digits characters bytes-of
 characters-read [] d e = refl
 characters-read (c ∷ []) d e = absurd (omega arith)
@@ -95,13 +98,14 @@ right-writable {l} r =
 abbrev bytes-in : List Frame → List (List ℕ)
 bytes-in = map (λ (f : Frame). f .bytes)
 
--- the frames of right lines, written, are these lines
-framed-written : {ls : List Line} (i : ℕ) → Each Right ls → text-of (bytes-in (framed i ls)) ≡ joined ls
+-- the frames of right lines, written, are these lines in small letters
+framed-written : {ls : List Line} (i : ℕ) → Each Right ls
+    → text-of (bytes-in (framed i ls)) ≡ joined (map line-in-small ls)
 unfolding text-of line-of framed joined
 framed-written i none = refl
 framed-written i (and {l} {ls} r rs) =
     rw (characters-read (l .characters) (r .digits) (r .even), r .ended, framed-written (i + 1) rs)
-    (append-snoc (l .characters) 0x0a (joined ls))
+    (append-snoc (in-small-letters (l .characters)) 0x0a (joined (map line-in-small ls)))
 
 framed-writable : {ls : List Line} (i : ℕ) → Each Right ls → AllWritable (bytes-in (framed i ls))
 unfolding framed
@@ -114,16 +118,27 @@ module _ (t : List ℕ) (read : frames t .number ≡ 0) where
   framed-text : bytes-of-all (frames t) ≡ bytes-in (framed 1 (lines-of t))
   framed-text = ap bytes-of-all (text-framed t read)
 
-  -- THEOREM: its frames, written, are the text
-  pub read-written : text-of (bytes-of-all (frames t)) ≡ t
-  read-written = ap text-of framed-text ∙ framed-written 1 (text-right t read .right) ∙ joined-lines t
+  -- THEOREM: its frames, written, are the text in small letters
+  pub read-written : text-of (bytes-of-all (frames t)) ≡ in-small-letters t
+  read-written =
+      ap text-of framed-text ∙ framed-written 1 (text-right t read .right) ∙ joined-in-small (lines-of t) ∙
+      ap in-small-letters (joined-lines t)
+
+  -- so they are the text itself exactly where it is in small letters
+  pub read-same : (text-of (bytes-of-all (frames t)) ≡ t) ↔ (in-small-letters t ≡ t)
+  read-same = (λ e. sym read-written ∙ e, λ e. read-written ∙ e)
+
+  -- and in any case they are read as they were
+  pub read-again : frames (text-of (bytes-of-all (frames t))) ≡ frames t
+  read-again = ap frames read-written ∙ frames-in-small t
 
   pub read-writable : AllWritable (bytes-of-all (frames t))
   read-writable = rw framed-text (framed-writable 1 (text-right t read .right))
 
-  -- so its frames stand in lines from 1 on, all of them
+  -- its frames stand in lines from 1 on, all of them
   pub read-whole : frames t ≡ all-read (bytes-of-all (frames t))
   read-whole =
       let fs = bytes-of-all (frames t) in
-      let short : length (text-of fs) ≤ 32768 = rw read-written (text-right t read .short) in
-      ap frames (sym read-written) ∙ written-read fs read-writable short
+      let size : length (text-of fs) ≡ length t = ap length read-written ∙ length-map t small-letter in
+      let short : length (text-of fs) ≤ 32768 = rw size (text-right t read .short) in
+      sym read-again ∙ written-read fs read-writable short

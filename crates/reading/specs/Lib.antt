@@ -4,3 +4,4 @@ pub mod Reading
 pub mod Records
 pub mod Contract
 pub mod OneReply
+pub mod Letters

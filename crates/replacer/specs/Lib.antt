@@ -8,4 +8,5 @@ pub mod Judged
 pub mod Theorems
 pub mod Samples
 pub mod Printed
+pub mod Letters
 pub mod Contract

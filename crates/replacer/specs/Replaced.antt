@@ -6,7 +6,7 @@ use mathlib.Core.Path.{_≡_}
 use mathlib.Core.Bool.{Bool, false, cond}
 use mathlib.Core.List.{List, [], _++_}
 use lib.Dec.{eqb, ltb, leb}
-use lib.ListN.{length, getD, take, set}
+use lib.ListN.{length, getD, take, drop, set}
 use Rattle.digits.specs.Digits.{characters}
 use Rattle.frames.specs.Lines.{Line, lines-of, joined}
 use Rattle.frames.specs.Frames.{Frame, frames}
@@ -32,14 +32,23 @@ with-side head side l =
 abbrev no-line : Line
 no-line = record { characters = []; ended = false }
 
--- some lines, with the right side of that of the frame f replaced; "Lines count from 1"
+-- the line of the frame f among some lines; "Lines count from 1"
+abbrev pub line-with : Frame → List Line → Line
+line-with f ls = getD ls (f .line - 1) no-line
+
+-- some lines, with the right side of that of the frame f replaced
 abbrev pub lines-replaced : Frame → List ℕ → List Line → List Line
-lines-replaced f side ls =
-    set ls (f .line - 1) (with-side (head-size (f .bytes)) side (getD ls (f .line - 1) no-line))
+lines-replaced f side ls = set ls (f .line - 1) (with-side (head-size (f .bytes)) side (line-with f ls))
 
 -- the resulting text
 unfoldable pub replaced-text : List ℕ → ℕ → List ℕ → List ℕ
 replaced-text t e side = joined (lines-replaced (equation-frame t e) side (lines-of t))
+
+-- the characters of the right side that equation e has in the text
+abbrev pub old-side : List ℕ → ℕ → List ℕ
+old-side t e =
+    let f = equation-frame t e in
+    drop (2 * head-size (f .bytes)) (line-with f (lines-of t) .characters)
 
 -- ---- refused
 

@@ -77,13 +77,14 @@ module _ {t : List ℕ} {e : ℕ} (s : Standing t e) where
       (omega (arith, whole-head, length-bytes (s .line .characters)))
 
   -- ---- the texts, parted where the right side begins: what stands before it, and on
-  abbrev first-part : List ℕ
+  abbrev pub first-part : List ℕ
   first-part = joined (s .before) ++ take (2 * head-there) (s .line .characters)
 
   wholes : Each Whole (s .before)
   wholes = rights-whole (s .rights-before)
 
-  old-parts : t ≡ first-part ++ (drop (2 * head-there) (s .line .characters) ++ (0x0a ∷ joined (s .after)))
+  pub old-parts : t
+      ≡ first-part ++ (drop (2 * head-there) (s .line .characters) ++ (0x0a ∷ joined (s .after)))
   unfolding joined
   old-parts =
       let cs = s .line .characters in
@@ -170,7 +171,7 @@ module _ {t : List ℕ} {e : ℕ} (s : Standing t e) where
           length-characters side,
         )
 
-    new-parts : replaced-text t e side ≡ first-part ++ (line-of side ++ joined (s .after))
+    pub new-parts : replaced-text t e side ≡ first-part ++ (line-of side ++ joined (s .after))
     unfolding joined line-of
     new-parts =
         let rest = joined (s .after) in

@@ -53,6 +53,9 @@ samples =
     written noted 0 (0x1a ∷ 0x01 ∷ 0x00 ∷ []) 44 noted ∷
     -- small letters
     written "01000011\n0200\n" 0 (0x12 ∷ 0x1a ∷ 0x00 ∷ 0x00 ∷ 0x11 ∷ []) 100 "010000121a000011\n0200\n" ∷
+    -- capitals stay elsewhere: "the writer writes only the new right side anew, in small letters"
+    written "03aB\n0101001A0100\n0101001A0000\n0200\n" 0 (0x1a ∷ 0x01 ∷ 0x00 ∷ []) 100
+    "03aB\n0101001a0100\n0101001A0000\n0200\n" ∷
     -- the old text first, then the equation's number, any number
     refusing "0200\n" 5 (0x11 ∷ []) 100 (refused 4 1) ∷
     refusing noted 2 [] 100 (refused 19 0) ∷

@@ -1,5 +1,5 @@
--- THEOREMS about a text with one right side replaced: what is read of it, when it is the old text, that
--- replacing twice is replacing once, and that a looser right side keeps every yes.
+-- THEOREMS about a text with one right side replaced: what is read of it, that replacing twice is replacing
+-- once, and that a looser right side keeps every yes.
 -- The lines are parted at the equation's; what stands before and behind it is the same list in both texts.
 use Prim.Native.Nat.{ℕ, _+_, _-_, _*_, _≤_, _<_}
 use native.Mathlib.Omega.{arith}
@@ -7,7 +7,7 @@ use mathlib.Core.Path.{_≡_, refl, sym, ap, ap₂, subst, _∙_}
 use mathlib.Core.Bool.{true, false}
 use mathlib.Core.List.{List, [], _∷_, _++_, map}
 use lib.Dec.{eqb, leb}
-use lib.ListN.{length, getD, take, drop, set, length-map, length-set, take-append-drop}
+use lib.ListN.{length, getD, take, drop, set, length-map, length-set}
 use lib.Seq.{set-at, getD-set-same, take-at}
 use borrow.Author.Tests.{leb-true, eq-eqb}
 use Rattle.meaning.specs.Formulas.{Formula}
@@ -15,15 +15,13 @@ use Rattle.meaning.specs.Models.{ModelEquation, model-equation, Model}
 use Rattle.meaning.specs.Ranges.{signatures}
 use Rattle.meaning.specs.Looser.{Loosens, Looser-equations, no-equations, looser, Looser}
 use Rattle.digits.specs.Digits.{characters}
-use Rattle.digits.proofs.Written.{characters-drop}
 use Rattle.frames.specs.Lines.{Line, lines-of, joined, line-place}
 use Rattle.frames.specs.Frames.{Frame, Frames, frames}
-use Rattle.frames.specs.Whole.{framed, joined-lines}
-use Rattle.frames.specs.RoundTrip.{characters-read}
+use Rattle.frames.specs.Whole.{framed}
 use Rattle.formulas.specs.Bodies.{formula-of}
 use Rattle.reading.specs.Equations.{ranges-in, body-in, equation-of}
 use Rattle.reading.specs.Models.{frames-with, equations-in, first-of, model-of}
-use Rattle.reading.specs.Reading.{Refusal, refused, text-refusal}
+use Rattle.reading.specs.Reading.{Refusal, text-refusal}
 use Rattle.reading.proofs.Drafts.{frame-of}
 use Rattle.reading.proofs.Refusals.{passed}
 use Rattle.answers.specs.Answers.{the-model, the-start, list, answer}
@@ -31,7 +29,7 @@ use Rattle.answers.specs.Demand3.{looser-text-holds, looser-text-bits}
 use Rattle.truth.specs.Bits.{bit-of}
 use Rattle.replacer.specs.Replaced.{equation-frame, head-size, with-side, lines-replaced, replaced-text}
 use Rattle.replacer.specs.Replaced.{replacement-refusal}
-use Rattle.replacer.specs.Order.{none, due-given, Accepted, written-exactly}
+use Rattle.replacer.specs.Order.{Accepted, written-exactly}
 use Rattle.replacer.specs.Heads.{frame-with, head-whole, same-code, same-sign, same-count}
 use Rattle.replacer.specs.Heads.{same-ranges, new-body}
 use Rattle.replacer.specs.Judging.{equation-from, equations-split, others-split, model-split}
@@ -238,32 +236,6 @@ module _ (t : List ℕ) (e : ℕ) (side : List ℕ) (room : ℕ) (small : Small 
           → getD (list t) j [] ≡ getD (list result) j′ []
           → bit-of (answer t words .truth) j ≡ true → bit-of (answer result words′ .truth) j′ ≡ true
       looser-side-bits words words′ = looser-text-bits t result words words′ replaced-looser
-
--- ---- the same bytes
--- THEOREM: "writing in the old right side gives the same bytes"
-pub same-bytes : (t : List ℕ) (e : ℕ) → text-refusal t .number ≡ 0 → e < length (equations-in (frames t .all))
-    → replaced-text t e (body-in (equation-frame t e .bytes)) ≡ t
-same-bytes t e z h =
-    let there = standing t e z h in
-    let cs = there .line .characters in
-    let f = bytes-there there in
-    let n = 2 * head-there there in
-    let body = ap (λ (g : Frame). replaced-text t e (body-in (g .bytes))) (there .frame-is) in
-    let digits = characters-drop (head-there there) f ∙
-    ap (drop n) (characters-read cs (there .right .digits) (there .right .even)) in
-    let line : (take n cs) ++ characters (body-in f) ≡ cs = rw digits (take-append-drop n cs) in
-    let with-digits : List ℕ → Line = λ l. record { characters = l; ended = there .line .ended } in
-    body ∙ result-joined there (body-in f) ∙
-    ap (λ (l : List ℕ). joined (there .before ++ (with-digits l ∷ there .after))) line ∙
-    ap joined (sym (there .is)) ∙ joined-lines t
-
--- and it is written, into every buffer that is long enough
-pub same-bytes-written : (t : List ℕ) (e room : ℕ) → text-refusal t .number ≡ 0
-    → e < length (equations-in (frames t .all)) → length t ≤ room
-    → replacement-refusal t e (body-in (equation-frame t e .bytes)) room ≡ refused 0 0
-same-bytes-written t e room z h enough =
-    let same = same-bytes t e z h in
-    due-given (none z h (rw same z) (rw same enough))
 
 -- ---- twice
 -- THEOREM: replacing twice is replacing once by the second, whatever the second is

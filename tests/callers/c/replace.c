@@ -1,10 +1,10 @@
 /* Calls the archive's replacing of a right side from C with thousands of texts, equations and right sides, and
    compares the word that comes back and every byte of the buffer with a plain writer that shares no code with it.
    Where a text comes out, it is also looked at by itself: every line but one is the old one, it is not refused, the
-   old right side gives the old text back, and what was replaced before does not matter. The first difference ends
-   the run with status 1.
+   old right side gives the old text back, with that right side in small letters, and what was replaced before
+   does not matter, nor does the case of the digits. The first difference ends the run with status 1.
 
-       replace [HOW MANY [SEED]]          texts made from the seed
+       replace [HOW MANY [SEED]]          each byte value at some places, and texts made from the seed
        replace samples TEXTS ANSWERS      the texts of a file, in the form of crates/samples/README.md; an answer is
                                           the resulting text, or the line of the refusal
 
@@ -14,6 +14,7 @@
 
 #include "../../reference/reference.h"
 #include "../../reference/replace.h"
+#include "places.h"
 #include "samples.h"
 #include "texts.h"
 #include "words.h"
@@ -91,6 +92,80 @@ static int known_samples(const char *texts_name, const char *answers_name)
     return number > 0 ? 0 : 1;
 }
 
+/* ---- each byte value as a character -------------------------------------------------------------------- */
+
+/* Where the byte is put, the equation, and the digits of its new right side. */
+static const struct {
+    struct place at;
+    size_t equation;
+    const char *side;
+} places[] = {
+    {{"03?5\n0100001A0000\n0200\n", 1, ANY_DIGIT, "03!5\n0100001a0000\n0200\n", NULL, "06030002\n"},
+     0, "1a0000"},
+    {{"0100001A0000\n0200\n035?\n", 3, ANY_DIGIT, "0100001a0000\n0200\n035!\n", NULL, "06030003\n"},
+     0, "1a0000"},
+    {{"03?5\n01000011\n0200\n", 1, ANY_DIGIT, "06130000\n", NULL, "06030002\n"}, 1, "11"},
+    /* in its head */
+    {{"0100?011\n0200\n", 1, 1 << 0, "0100!01a0000\n0200\n", "06050001\n", "06050001\n"}, 0, "1a0000"},
+    {{"0100010?11\n020000\n", 1, 0xfffe, "0100010!1a00012000\n020000\n", "06050001\n", "06030001\n"},
+     0, "1a00012000"},
+    /* in the old right side */
+    {{"010000?1\n0200\n", 1, 1 << 1, "0100001a0000\n0200\n", "06060001\n", "06060001\n"}, 0, "1a0000"},
+    {{"0100001?0000\n0200\n", 1, 1 << 10, "0100001a0000\n0200\n", "06060001\n", "06030001\n"}, 0, "1a0000"},
+    /* in another equation, in the start */
+    {{"01000011\n010000?1\n0200\n", 2, 1 << 1, "0100001a0000\n010000!1\n0200\n", "06060002\n", "06060002\n"},
+     0, "1a0000"},
+    {{"0100001?0000\n01000011\n0200\n", 1, 1 << 10, "0100001!0000\n0100001a0000\n0200\n", "06060001\n",
+      "06030001\n"}, 1, "1a0000"},
+    {{"0100011011\n02000?\n", 2, ANY_DIGIT, "010001101a00012000\n02000!\n", NULL, "06030002\n"},
+     0, "1a00012000"},
+};
+
+static size_t bytes_of(const char *digits, uint8_t *bytes)
+{
+    size_t n = 0;
+    for (; digits[2 * n] != 0; n++)
+        bytes[n] = (uint8_t)strtoul((const char[]){digits[2 * n], digits[2 * n + 1], 0}, NULL, 16);
+    return n;
+}
+
+static void try_places(void)
+{
+    uint8_t its_text[PLACES_MOST], its_side[PLACES_MOST], due[PLACES_MOST];
+    static uint8_t answer[REPLACE_MOST];
+    for (unsigned i = 0; i < sizeof places / sizeof *places; i++)
+        for (unsigned byte = 0; byte < BYTE_VALUES; byte++) {
+            struct task t = {its_text, 0, places[i].equation, its_side, bytes_of(places[i].side, its_side)};
+            size_t answer_length, length = places_due(&places[i].at, byte, due);
+            t.length = places_text(&places[i].at, byte, its_text);
+            answer_length = words_shown(call(&t, PLENTY), out_end - PLENTY, answer);
+            if (answer_length != length || memcmp(answer, due, length) != 0)
+                fail("another answer than by the rule of the digits", &t);
+        }
+}
+
+/* ---- the old right side -------------------------------------------------------------------------------- */
+
+static uint8_t old_side[256];
+static size_t old_place, old_length, head_length; /* of the equation asked for, in a text that is read */
+
+/* Finds them, and the old right side's bytes; false where the text is refused or has no such equation. */
+static bool look_at(const struct task *t)
+{
+    size_t from;
+    reference_read(t->text, t->length);
+    if (!reference_side(t->equation, &old_place, &old_length))
+        return false;
+    for (from = old_place; from > 0 && t->text[from - 1] != '\n'; from--)
+        ;
+    head_length = (old_place - from) / 2;
+    for (size_t i = 0; i < old_length; i++) {
+        char digits[] = {(char)t->text[old_place + 2 * i], (char)t->text[old_place + 2 * i + 1], 0};
+        old_side[i] = (uint8_t)strtoul(digits, NULL, 16);
+    }
+    return true;
+}
+
 /* ---- what a resulting text is, said without the plain writer ---------------------------------------------- */
 
 static unsigned long notes_between, notes_after, shortest_notes, longest_notes; /* texts that have them */
@@ -159,16 +234,55 @@ static void must_be_read(const struct task *t, const uint8_t *result, size_t len
         fail("a text that has another answer", t);
 }
 
-/* The old right side gives the old text, put into the old text or into the resulting one. */
-static void must_come_back(const struct task *t, const uint8_t *result, size_t length, const uint8_t *old,
-                           size_t old_length)
+/* The old right side, put into `from` (the old text, or the one that came of it), gives the old text with
+   that right side in small letters. */
+static void must_come_back(const struct task *t, const uint8_t *from, size_t length, size_t buffer)
 {
-    struct task same = {t->text, t->length, t->equation, old, old_length};
-    struct task back = {result, length, t->equation, old, old_length};
-    if (call(&same, PLENTY) != t->length || memcmp(out_end - PLENTY, t->text, t->length) != 0)
-        fail("the old right side gives another text", t);
-    if (call(&back, t->length) != t->length || memcmp(out_end - t->length, t->text, t->length) != 0)
-        fail("the old right side does not give the old text back", t);
+    static uint8_t due[REPLACE_MOST];
+    struct task back = {from, length, t->equation, old_side, old_length};
+    memcpy(due, t->text, t->length);
+    texts_small(due + old_place, 2 * old_length);
+    if (call(&back, buffer) != t->length || memcmp(out_end - buffer, due, t->length) != 0)
+        fail("the old right side does not give the old text, with that right side in small letters,", t);
+}
+
+static unsigned long capitals_around, capitals_within; /* texts that the old right side was put into */
+
+/* The same of the text with capitals everywhere but in the right side, which comes out just as it was; and of
+   the text with capitals nowhere else, which comes out in small letters. */
+static void must_come_back_in_cases(const struct task *t)
+{
+    static uint8_t around[REPLACE_MOST], within[REPLACE_MOST];
+    struct task by = {around, t->length, t->equation, t->side, t->side_length};
+    size_t digits = 2 * old_length;
+    memcpy(around, t->text, t->length);
+    texts_capital(around, t->length);
+    texts_small(around + old_place, digits);
+    must_come_back(&by, around, t->length, t->length);
+    memcpy(within, t->text, t->length);
+    texts_small(within, t->length);
+    texts_capital(within + old_place, digits);
+    by.text = within;
+    must_come_back(&by, within, t->length, t->length);
+    capitals_around += texts_has_capital(around, t->length);
+    capitals_within += texts_has_capital(within, t->length);
+}
+
+/* The text in small letters gives the same word, and the same text in small letters. */
+static void must_be_same_small(const struct task *t, uint64_t word, const uint8_t *result)
+{
+    static uint8_t small[TEXT_MOST], due[REPLACE_MOST];
+    struct task same = {small, t->length, t->equation, t->side, t->side_length};
+    memcpy(small, t->text, t->length);
+    texts_small(small, t->length);
+    if (call(&same, PLENTY) != word)
+        fail("another word in small letters", t);
+    if (DEVASHTOR_REFUSED(word))
+        return;
+    memcpy(due, result, word);
+    texts_small(due, word);
+    if (memcmp(out_end - PLENTY, due, word) != 0)
+        fail("another text in small letters", t);
 }
 
 /* Another right side put into the resulting text, and into the old one: the same, refused or not. */
@@ -189,27 +303,9 @@ static void must_forget(const struct task *t, const uint8_t *result, size_t leng
 enum { NUMBERS = 20 };
 
 static unsigned long of_old[NUMBERS], of_result[NUMBERS]; /* refusals; 0 of the second: accepted */
-static unsigned long frames_full, frames_over, texts_full, texts_over;
+static unsigned long frames_full, frames_over, texts_full, texts_over, capitals;
 
-static uint8_t text[TEXT_MOST], side[LONGEST_SIDE], old_side[256];
-static size_t old_place, old_length, head_length; /* of the equation that is asked for, in a text that is read */
-
-/* Finds them, and the old right side's bytes; false where the text is refused or has no such equation. */
-static bool look_at(const struct task *t)
-{
-    size_t from;
-    reference_read(t->text, t->length);
-    if (!reference_side(t->equation, &old_place, &old_length))
-        return false;
-    for (from = old_place; from > 0 && t->text[from - 1] != '\n'; from--)
-        ;
-    head_length = (old_place - from) / 2;
-    for (size_t i = 0; i < old_length; i++) {
-        char digits[] = {(char)t->text[old_place + 2 * i], (char)t->text[old_place + 2 * i + 1], 0};
-        old_side[i] = (uint8_t)strtoul(digits, NULL, 16);
-    }
-    return true;
-}
+static uint8_t text[TEXT_MOST], side[LONGEST_SIDE];
 
 static size_t equations_of(const struct task *t)
 {
@@ -285,6 +381,7 @@ static void count_answer(const struct task *t, uint64_t word)
     frames_over += number == 3 && frame == 257 && t->side_length % 2 == 1;
     texts_full += number == 0 && result == REPLACE_MOST;
     texts_over += number == 1 && result <= REPLACE_MOST + 2;
+    capitals += number == 0 && texts_has_capital(t->text, t->length);
 }
 
 static void try_task(const struct task *t, bool checked)
@@ -292,11 +389,14 @@ static void try_task(const struct task *t, bool checked)
     static uint8_t result[REPLACE_MOST];
     uint64_t word = call(t, PLENTY);
     count_answer(t, word);
+    if (!DEVASHTOR_REFUSED(word))
+        words_shown(word, out_end - PLENTY, result);
+    if (texts_has_capital(t->text, t->length))
+        must_be_same_small(t, word, result);
     if (DEVASHTOR_REFUSED(word)) {
         call(t, texts_below(3) == 0 ? texts_below(100) : 0);
         return;
     }
-    words_shown(word, out_end - PLENTY, result);
     call(t, word);
     call(t, texts_below((unsigned)word));
     of_result[10] += DEVASHTOR_NUMBER(call(t, word - 1)) == 10;
@@ -304,7 +404,9 @@ static void try_task(const struct task *t, bool checked)
     must_keep_lines(t, result, word);
     must_be_read(t, result, word, checked);
     look_at(t);
-    must_come_back(t, result, word, old_side, old_length);
+    must_come_back(t, t->text, t->length, PLENTY);
+    must_come_back(t, result, word, t->length);
+    must_come_back_in_cases(t);
     must_forget(t, result, word);
 }
 
@@ -351,15 +453,18 @@ static int summary(unsigned long wanted)
 {
     static const unsigned by_old[] = {1, 2, 3, 4, 5, 6, 7, 8, 0}, by_result[] = {19, 1, 3, 6, 7, 10, 0};
     const unsigned long must_occur[] = {notes_between, notes_after, shortest_notes, longest_notes,
-                                        frames_full, frames_over, texts_full, texts_over};
+                                        frames_full, frames_over, texts_full, texts_over,
+                                        capitals, capitals_around, capitals_within};
     bool weak = of_result[0] * 5 < wanted;
     printf("replace.c: %lu texts, %lu calls, no difference: %lu accepted", wanted, calls, of_result[0]);
     weak |= rare("refused the old text by", of_old, by_old, wanted);
     weak |= rare("then by", of_result, by_result, wanted);
     printf("; accepted with notes between equations %lu, after the start %lu, of 1 byte %lu, of 256 %lu", notes_between,
            notes_after, shortest_notes, longest_notes);
-    printf("; frames of 256 bytes %lu, refused 257 %lu; texts of 32768 %lu, refused just over %lu\n", frames_full,
-           frames_over, texts_full, texts_over);
+    printf("; frames of 256 bytes %lu, refused 257 %lu; texts of 32768 %lu, refused just over %lu",
+           frames_full, frames_over, texts_full, texts_over);
+    printf("; accepted with capitals %lu, put around the old right side %lu, within it %lu\n", capitals,
+           capitals_around, capitals_within);
     for (unsigned i = 0; i < sizeof must_occur / sizeof *must_occur; i++)
         weak |= must_occur[i] * 1000 < wanted;
     if (wanted >= 4000 && weak) {
@@ -378,6 +483,7 @@ int main(int arguments, char **argument)
     if (arguments == 4 && strcmp(argument[1], "samples") == 0)
         return known_samples(argument[2], argument[3]);
     texts_seed(arguments > 2 ? strtoul(argument[2], NULL, 10) : 1);
+    try_places();
     for (unsigned long n = 0; n < wanted; n++) {
         struct task t = {text, next_text(), 0, side, 0};
         t.equation = next_equation(&t);

@@ -1,7 +1,6 @@
 #define _DEFAULT_SOURCE
 #include "texts.h"
 
-#include <stdbool.h>
 #include <stdio.h>
 #include <stdlib.h>
 #include <string.h>
@@ -301,6 +300,62 @@ static size_t model(uint8_t *text)
     return length;
 }
 
+/* ---- the case of letters ----------------------------------------------------------------------- */
+
+static void make_capital(uint8_t *character)
+{
+    if (*character >= 'a' && *character <= 'f')
+        *character = (uint8_t)(*character - 'a' + 'A');
+}
+
+/* All letters of the text stay small, or are made capital, or those of some lines, or each by chance. */
+static size_t in_a_case(uint8_t *text, size_t length)
+{
+    enum { CAPITAL, BY_LINE, BY_LETTER, SMALL };
+    unsigned kind = texts_below(2 * SMALL);
+    bool capital = kind == CAPITAL;
+    for (size_t i = 0; kind < SMALL && i < length; i++) {
+        if (kind == BY_LETTER || (kind == BY_LINE && (i == 0 || text[i - 1] == '\n')))
+            capital = chance(50);
+        if (capital)
+            make_capital(&text[i]);
+    }
+    return length;
+}
+
+void texts_small(uint8_t *text, size_t length)
+{
+    for (size_t i = 0; i < length; i++)
+        if (text[i] >= 'A' && text[i] <= 'F')
+            text[i] = (uint8_t)(text[i] - 'A' + 'a');
+}
+
+void texts_capital(uint8_t *text, size_t length)
+{
+    for (size_t i = 0; i < length; i++)
+        make_capital(&text[i]);
+}
+
+bool texts_has_capital(const uint8_t *text, size_t length)
+{
+    for (size_t i = 0; i < length; i++)
+        if (text[i] >= 'A' && text[i] <= 'F')
+            return true;
+    return false;
+}
+
+bool texts_has_mixed_byte(const uint8_t *text, size_t length)
+{
+    bool low = false; /* whether the digit is the second of its byte */
+    for (size_t i = 0; i < length; i++) {
+        if (low && ((texts_has_capital(&text[i], 1) && text[i - 1] >= 'a' && text[i - 1] <= 'f') ||
+                    (texts_has_capital(&text[i - 1], 1) && text[i] >= 'a' && text[i] <= 'f')))
+            return true;
+        low = text[i] != '\n' && !low;
+    }
+    return false;
+}
+
 /* ---- damage ------------------------------------------------------------------------------------ */
 
 static size_t cut(uint8_t *text, size_t length, size_t from, size_t bytes)
@@ -337,9 +392,8 @@ static size_t damage(uint8_t *text, size_t length)
             text[at + 1] = (uint8_t)"0123456789abcdef"[texts_below(16)];
         }
         return length;
-    case 2: /* a capital digit */
-        if (text[at] >= 'a' && text[at] <= 'f')
-            text[at] = (uint8_t)(text[at] - 'a' + 'A');
+    case 2: /* a character just beside the digits */
+        text[at] = (uint8_t)"/:@G`g"[texts_below(6)];
         return length;
     case 3: /* a character is dropped */
         return cut(text, length, at, 1);
@@ -405,7 +459,7 @@ static size_t filled(uint8_t *text, size_t length)
     return length;
 }
 
-size_t texts_next(uint8_t *text)
+static size_t any_text(uint8_t *text)
 {
     unsigned kind = texts_below(1000);
     size_t length;
@@ -425,6 +479,11 @@ size_t texts_next(uint8_t *text)
     for (unsigned times = between(1, 3); times > 0; times--)
         length = damage(text, length);
     return length;
+}
+
+size_t texts_next(uint8_t *text)
+{
+    return in_a_case(text, any_text(text));
 }
 
 /* ---- models in long texts --------------------------------------------------------------------------- */
@@ -453,7 +512,7 @@ size_t texts_next_long(uint8_t *text, size_t aim)
         if (with == aim || with + 5 <= aim || with + 3 == aim) /* the rest must be filled by notes too */
             length = insert_note(text, length, bytes);
     }
-    return length;
+    return in_a_case(text, length);
 }
 
 /* ---- right sides --------------------------------------------------------------------------------------- */
@@ -803,7 +862,7 @@ static size_t process(uint8_t *text)
     return kind < 96 ? process_of_many_points(text) : process_of_many_summands(text);
 }
 
-size_t texts_next_process(uint8_t *text)
+static size_t any_process(uint8_t *text)
 {
     unsigned kind = texts_below(1000);
     size_t length;
@@ -823,6 +882,11 @@ size_t texts_next_process(uint8_t *text)
     for (unsigned times = between(1, 3); times > 0; times--)
         length = damage(text, length);
     return length;
+}
+
+size_t texts_next_process(uint8_t *text)
+{
+    return in_a_case(text, any_process(text));
 }
 
 /* ---- where texts are put ----------------------------------------------------------------------------- */

@@ -3,6 +3,7 @@
 #ifndef TEXTS_H
 #define TEXTS_H
 
+#include <stdbool.h>
 #include <stddef.h>
 #include <stdint.h>
 
@@ -11,7 +12,8 @@ enum { TEXT_MOST = 70000 };
 void texts_seed(uint64_t seed);
 unsigned texts_below(unsigned n); /* a number from 0 to n - 1 */
 
-/* Writes the next text into `text`, which has room for TEXT_MOST bytes, and gives its length. */
+/* Writes the next text into `text`, which has room for TEXT_MOST bytes, and gives its length. Its letters are
+   small, capital, or of both cases. */
 size_t texts_next(uint8_t *text);
 
 /* A model in a text of just this length, which is at least 20,000: its notes, of 1 to 256 bytes, stand anywhere. */
@@ -29,6 +31,13 @@ size_t texts_side_of(size_t bytes, uint8_t *side);
 
 /* The same for a process with a formula. */
 size_t texts_next_process(uint8_t *text);
+
+/* The digits among these characters made small or capital; whether one of them is capital, and whether a byte
+   has one of each case. */
+void texts_small(uint8_t *text, size_t length);
+void texts_capital(uint8_t *text, size_t length);
+bool texts_has_capital(const uint8_t *text, size_t length);
+bool texts_has_mixed_byte(const uint8_t *text, size_t length);
 
 /* The end of AREA_MOST bytes of memory, with forbidden memory behind it: what ends there cannot be read or
    written past its end. */

@@ -1,9 +1,10 @@
 /* Calls the archive's translation from C with thousands of processes and formulas, and compares the word that
    comes back and every byte of the buffer with a plain translator that shares no code with it. Where a model
    comes out, it is checked, and its verdict compared with the formula's own meaning over the process's states.
-   The first difference ends the run with status 1.
+   A text with capital digits must give what the same text gives in small letters. The first difference ends
+   the run with status 1.
 
-       translate [HOW MANY [SEED]]          texts made from the seed
+       translate [HOW MANY [SEED]]          each byte value at some places, and texts made from the seed
        translate samples TEXTS ANSWERS      the texts of a file, in the form of crates/samples/README.md; an answer
                                             is the model's text, or the line of the refusal
        translate models NAME.process ..     each must give NAME.model, and that, checked, NAME.answer
@@ -14,6 +15,7 @@
 
 #include "../../reference/reference.h"
 #include "../../reference/translate.h"
+#include "places.h"
 #include "samples.h"
 #include "texts.h"
 #include "words.h"
@@ -60,11 +62,12 @@ static uint64_t call(const uint8_t *text, size_t length, size_t buffer)
 static uint8_t answer[PLENTY];
 static const char *trying;
 
-/* The answer, of this length, must be that of the file. */
+/* The answer, of this length, must be that of the file, or of the rule. */
 static void must_be(const uint8_t *right, size_t right_length, size_t length)
 {
     if (length != right_length || memcmp(answer, right, length) != 0) {
         printf("translate.c: another answer than that of %s:\n%.*s", trying, (int)length, (const char *)answer);
+        printf("for this one:\n%.*s", (int)right_length, (const char *)right);
         exit(1);
     }
 }
@@ -111,9 +114,35 @@ static int known_models(char **names)
     return number > 0 ? 0 : 1;
 }
 
+/* ---- each byte value as a character -------------------------------------------------------------------- */
+
+static const struct place places[] = {
+    {"03?5\n0900\n0811\n", 1, ANY_DIGIT, "01010011\n0200\n", NULL, "06030002\n"},
+    {"0900\n035?\n0811\n", 2, ANY_DIGIT, "01010011\n0200\n", NULL, "06030002\n"},
+    {"0901?000\n0811\n", 1, 1 << 1, "0101011011\n020000\n", "060e0001\n", "06030002\n"}, /* a range */
+    {"0901100?\n0811\n", 1, ANY_DIGIT, "0101011011\n02000?\n", NULL, "06030001\n"}, /* an initial value */
+    {"0900\n0700?100\n0811\n", 2, 1 << 1, "01010011\n0200\n", "060e0002\n", "06030003\n"},
+    {"0900\n0700110?\n0830360a11\n", 2, 1 << 10, "010100131011\n0200\n", "01010011\n0200\n", "06030002\n"},
+    {"0900\n0700110a\n0830360?11\n", 3, 1 << 10, "010100131011\n0200\n", "01010011\n0200\n", "06030003\n"},
+    {"0900\n08?1\n", 2, 1 << 1, "01010011\n0200\n", "060e0002\n", "06030003\n"},
+};
+
+static void try_places(void)
+{
+    uint8_t text[PLACES_MOST], due[PLACES_MOST];
+    trying = "the rule of the digits";
+    for (unsigned i = 0; i < sizeof places / sizeof *places; i++)
+        for (unsigned byte = 0; byte < BYTE_VALUES; byte++) {
+            size_t length = places_text(&places[i], byte, text);
+            size_t due_length = places_due(&places[i], byte, due);
+            uint64_t word = call(text, length, TRANSLATE_MOST);
+            must_be(due, due_length, words_shown(word, out_end - TRANSLATE_MOST, answer));
+        }
+}
+
 /* ---- texts by chance -------------------------------------------------------------------------------------- */
 
-static unsigned long refusals[16], holds, fails, unknown, too_many;
+static unsigned long refusals[16], holds, fails, unknown, too_many, capitals;
 
 /* The model that came out: what the archive prints for it is what the plain checker prints, and its verdict is
    what the formula means. */
@@ -139,17 +168,33 @@ static void check_model(const uint8_t *text, size_t length, const uint8_t *model
         *(meant ? &holds : &fails) += 1;
 }
 
+/* The same text in small letters gives the same word and the same bytes. */
+static void must_be_same_small(const uint8_t *text, size_t length, uint64_t word, const uint8_t *model)
+{
+    static uint8_t small[TEXT_MOST];
+    memcpy(small, text, length);
+    texts_small(small, length);
+    if (call(small, length, TRANSLATE_MOST) != word)
+        fail("another word in small letters", text, length);
+    if (!DEVASHTOR_REFUSED(word) && memcmp(out_end - TRANSLATE_MOST, model, word) != 0)
+        fail("another model in small letters", text, length);
+}
+
 static void try_text(const uint8_t *text, size_t length)
 {
     static uint8_t model[TRANSLATE_MOST];
     size_t buffer = TRANSLATE_MOST + texts_below(PLENTY - TRANSLATE_MOST);
     uint64_t word = call(text, length, buffer);
     refusals[DEVASHTOR_NUMBER(word) & 15]++; /* counts what is accepted as 0 */
+    if (!DEVASHTOR_REFUSED(word))
+        words_shown(word, out_end - buffer, model);
+    if (texts_has_capital(text, length))
+        must_be_same_small(text, length, word, model);
     if (DEVASHTOR_REFUSED(word)) {
         call(text, length, texts_below(3) == 0 ? texts_below(100) : 0);
         return;
     }
-    words_shown(word, out_end - buffer, model);
+    capitals += texts_has_capital(text, length);
     call(text, length, word);
     call(text, length, texts_below((unsigned)word));
     refusals[10] += DEVASHTOR_NUMBER(call(text, length, word - 1)) == 10;
@@ -170,6 +215,7 @@ int main(int arguments, char **argument)
     if (arguments > 2 && strcmp(argument[1], "models") == 0)
         return known_models(argument + 2);
     texts_seed(arguments > 2 ? strtoul(argument[2], NULL, 10) : 1);
+    try_places();
     for (unsigned long n = 0; n < wanted; n++)
         try_text(text, texts_next_process(text));
     printf("translate.c: %lu texts, %lu calls, no difference: %lu accepted, refused", wanted, calls, refusals[0]);
@@ -177,7 +223,9 @@ int main(int arguments, char **argument)
         printf(" %u:%lu", kinds[i], refusals[kinds[i]]);
         weak = weak || refusals[kinds[i]] * 100 < wanted;
     }
-    printf("; %lu hold, %lu fail, %lu have over 512 instances, %lu not compared\n", holds, fails, too_many, unknown);
+    weak = weak || capitals * 20 < wanted;
+    printf("; %lu hold, %lu fail, %lu have over 512 instances, %lu not compared", holds, fails, too_many, unknown);
+    printf("; %lu accepted with capitals\n", capitals);
     if (wanted >= 1000 && (weak || refusals[0] * 3 < wanted || holds * 10 < refusals[0] || fails * 10 < refusals[0])) {
         printf("translate.c: a kind of answer is missing or rare, so this run is too weak\n");
         return 1;

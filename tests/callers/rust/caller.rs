@@ -1,6 +1,7 @@
 //! Calls the checker's archive from Rust with thousands of texts and compares every byte with a
-//! plain checker, and with a plain writer that replaces one right side; they share no code with it. The first
-//! difference ends the run with status 1.
+//! plain checker, and with a plain writer that replaces one right side; they share no code with it. A text
+//! with capital digits must have the answer of the same text in small letters. The first difference ends the
+//! run with status 1.
 //!
 //!     caller [HOW MANY [SEED]]
 
@@ -135,8 +136,9 @@ fn try_replace(texts: &mut Texts, text: &[u8], seen: &mut Refusals) -> u64 {
                 }
             }
             let back = Task { text: &result, equation, side: &texts::side_of(text, equation) };
-            if call_replace(&back, LONGEST, fill).as_deref() != Ok(text) {
-                fail("the old right side does not give the old text back", text, text, &result);
+            let due = texts::with_small_side(text, equation);
+            if call_replace(&back, LONGEST, fill).as_ref() != Ok(&due) {
+                fail("the old right side, in small letters, does not come back", text, &due, &result);
             }
             5
         }
@@ -162,7 +164,8 @@ fn main() {
         let fill = texts.below(256) as u8;
         let lengths = [ROOM, ROOM + 1 + texts.below(5_000), ROOM + 299];
         call(&text, &expected, lengths[n as usize % 3], fill);
-        calls += 1;
+        call(&texts::small(&text), &expected, ROOM, fill);
+        calls += 2;
         if n % 7 == 0 {
             let length = [0, 12, ROOM - 1][texts.below(3)];
             call(&text, &expected, length, fill);

@@ -33,6 +33,22 @@ impl Texts {
     }
 
     pub fn next(&mut self) -> Vec<u8> {
+        let text = self.any_text();
+        self.in_a_case(text)
+    }
+
+    /// The text stays in small letters, or all its letters are made capital, or each by chance.
+    fn in_a_case(&mut self, mut text: Vec<u8>) -> Vec<u8> {
+        let kind = self.below(4);
+        for c in text.iter_mut().filter(|c| (b'a'..=b'f').contains(*c)) {
+            if kind == 2 || (kind == 3 && self.one_in(2)) {
+                c.make_ascii_uppercase();
+            }
+        }
+        text
+    }
+
+    fn any_text(&mut self) -> Vec<u8> {
         match self.below(100) {
             0 => vec![],
             1 => (0..self.below(300)).map(|_| self.byte(0, 255)).collect(),
@@ -255,7 +271,7 @@ impl Texts {
         let at = self.below(text.len());
         match self.below(7) {
             0 => text[at] = self.byte(0, 255),
-            1 => text[at] = text[at].to_ascii_uppercase(),
+            1 => text[at] = b"/:@G`g"[self.below(6)], // just beside the digits
             2 => drop(text.remove(at)),
             3 => text.insert(at, b"0123456789abcdefABCDEF\n\r\t "[self.below(26)]),
             4 => text.truncate(at),
@@ -286,6 +302,21 @@ fn equations_of(text: &[u8]) -> Vec<Vec<u8>> {
     };
     let whole = |f: &Vec<u8>| f.len() > 3 && f[0] == 1 && f[2] <= 4 && f.len() > 3 + usize::from(f[2]);
     text.split(|c| *c == b'\n').filter_map(frame_of).filter(whole).collect()
+}
+
+/// The text with its capital digits made small: it has the same answer.
+pub fn small(text: &[u8]) -> Vec<u8> {
+    text.iter().map(|c| if (b'A'..=b'F').contains(c) { c.to_ascii_lowercase() } else { *c }).collect()
+}
+
+/// The model's text with the right side of this equation in small letters.
+pub fn with_small_side(text: &[u8], equation: usize) -> Vec<u8> {
+    let head = 2 * (equations_of(text)[equation].len() - side_of(text, equation).len());
+    let mut lines: Vec<Vec<u8>> = text.split_inclusive(|c| *c == b'\n').map(<[u8]>::to_vec).collect();
+    if let Some(line) = lines.iter_mut().filter(|line| line.starts_with(b"01")).nth(equation) {
+        line[head..].make_ascii_lowercase();
+    }
+    lines.concat()
 }
 
 /// The bytes of the right side of this equation of a model's text.
