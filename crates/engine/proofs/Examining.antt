@@ -23,6 +23,7 @@ use Rattle.answers.specs.Answers.{the-model, the-start, list, truth-in, shown-v
 use Rattle.answers.specs.Answers.{refusal, verdict, judged, answer}
 use Rattle.answers.specs.Demand1.{kept-all}
 use Rattle.answers.specs.Demand2.{start-first}
+use Rattle.preparing.specs.Promise.{Prepares}
 use Rattle.finding.specs.declared.Found.{Found}
 use Rattle.finding.specs.Found.{Searchable, FoundIn, Finds}
 use Rattle.instances.specs.Graph.{graph-words}
@@ -31,34 +32,40 @@ use Rattle.engine.specs.declared.Examined.{Examined}
 use Rattle.engine.specs.Examined.{judgement, Judged, ReadFrom, Examines}
 use Rattle.engine.proofs.ReadModel.{model-is, well-formed-model, start-is}
 
--- what was found in an accepted text: m is the model that was read, `entry` and `exit` are the table before and after,
--- and `graph` is what was drawn on empty rows
-pub record Searched (t : List ℕ) (m : Model) (bodies entry exit rows graph : List ℕ) (w : ℕ) (r : Found) : Type 0 where
-  pub read : ReadFrom t m bodies
-  pub named : w ≡ word (start-from m)
-  pub sized : length rows ≡ graph-words
-  pub empty : bit-of rows ≡ nowhere
-  pub finds : Finds bodies (m .equations) w (room-of (length entry)) entry exit rows graph r
+-- what was found in an accepted text: m is the model that was read, `prepared` are its bodies, prepared, `entry` and `exit`
+-- are the table before and after, and `graph` is what was drawn on empty rows
+pub record Searched (t : List ℕ) (m : Model) (bodies prepared entry exit rows graph : List ℕ) (w : ℕ) (r : Found) : Type 0
+  where
+    pub read : ReadFrom t m bodies
+    pub prepares : Prepares bodies (m .equations) prepared
+    pub named : w ≡ word (start-from m)
+    pub sized : length rows ≡ graph-words
+    pub empty : bit-of rows ≡ nowhere
+    pub finds : Finds prepared (m .equations) w (room-of (length entry)) entry exit rows graph r
 
-module _ {t : List ℕ} {m : Model} {bodies entry exit rows graph : List ℕ} {w : ℕ} {r : Found}
-    (s : Searched t m bodies entry exit rows graph w r) where
+module _ {t : List ℕ} {m : Model} {bodies prepared entry exit rows graph : List ℕ} {w : ℕ} {r : Found}
+    (s : Searched t m bodies prepared entry exit rows graph w r) where
   abbrev room : ℕ
   room = room-of (length entry)
 
   abbrev ws : List ℕ
   ws = map word (list t)
 
-  searchable : Searchable (reading t .bodies) (reading t .model .equations) w (reading t .model .count) (the-start t)
+  prepares : Prepares (reading t .bodies) (reading t .model .equations) prepared
+  prepares = rw (s .read .records-same, s .read .bodies-same) at (s .prepares)
+
+  searchable : Searchable prepared (reading t .model .equations) w (reading t .model .count) (the-start t)
   searchable = record {
-    model = well-formed-model t (s .read .accepted);
+    model = well-formed-model t (s .read .accepted) prepared prepares;
     named = rw (s .read .records-same, start-is t (s .read .accepted)) at (s .named);
   }
 
-  here : Finds (reading t .bodies) (reading t .model .equations) w room entry exit rows graph r
-  here = rw (s .read .records-same, s .read .bodies-same) at (s .finds)
+  here : Finds prepared (reading t .model .equations) w room entry exit rows graph r
+  here = rw (s .read .records-same) at (s .finds)
 
   found : FoundIn (the-model t) (the-start t) room entry exit r
-  found = rw (model-is t (s .read .accepted)) at (here .finds (reading t .model .count) (the-start t) searchable)
+  found =
+      rw (model-is t (s .read .accepted) prepared prepares) at (here .finds (reading t .model .count) (the-start t) searchable)
 
   kept : exit ≡ take room ws ++ drop (r .count) entry
   unfolding list
@@ -98,12 +105,12 @@ module _ {t : List ℕ} {m : Model} {bodies entry exit rows graph : List ℕ} {w
     words-are = ap (take (r .count)) (kept ∙ ap (λ (l : List ℕ). l ++ drop (r .count) entry) all-kept)
         ∙ take-at ws (drop (r .count) entry) (r .count) (length-map (list t) word ∙ sym count-is)
 
-    solvable : Solvable (reading t .bodies) (reading t .model .equations) (reading t .model .count) (take (r .count) exit)
+    solvable : Solvable prepared (reading t .model .equations) (reading t .model .count) (take (r .count) exit)
         graph (the-start t)
     unfolding list
     solvable = record {
-      model = well-formed-model t (s .read .accepted);
-      words = rw (model-is t (s .read .accepted)) words-are;
+      model = well-formed-model t (s .read .accepted) prepared prepares;
+      words = rw (model-is t (s .read .accepted) prepared prepares) words-are;
       drawn = here .draws (reading t .model .count) (the-start t) searchable h (s .sized) (s .empty);
     }
 
@@ -120,13 +127,13 @@ module _ {t : List ℕ} {m : Model} {bodies entry exit rows graph : List ℕ} {w
     unfolding verdict
     verdict-is = rw (truth-words-count (shown-values t) short, truth-words-bits (shown-values t) short, first-value) refl
 
-    truth-is : (truth : List ℕ) → Solves bodies (m .equations) (m .count) (take (r .count) exit) graph truth
+    truth-is : (truth : List ℕ) → Solves prepared (m .equations) (m .count) (take (r .count) exit) graph truth
         → truth ≡ truth-words (shown-values t)
     unfolding list shown-values
-    truth-is truth solves = rw (model-is t (s .read .accepted)) at
-        (rw (s .read .records-same, s .read .bodies-same) at solves (the-start t) solvable)
+    truth-is truth solves = rw (model-is t (s .read .accepted) prepared prepares) at
+        (rw (s .read .records-same) at solves (the-start t) solvable)
 
-    pub judged-so : (truth : List ℕ) → Solves bodies (m .equations) (m .count) (take (r .count) exit) graph truth
+    pub judged-so : (truth : List ℕ) → Solves prepared (m .equations) (m .count) (take (r .count) exit) graph truth
         → {a : Answer} → a ≡ judgement (r .count) truth → Judged t entry exit a
     unfolding judged
     judged-so truth solves g = record {

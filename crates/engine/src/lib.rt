@@ -1,4 +1,5 @@
-// The check of a whole text: it is read, its reached instances are found and solved, and the start is judged.
+// The check of a whole text: it is read and its bodies are prepared, its reached instances are found and
+// solved, and the start is judged.
 ghost use mathlib.Core.List.{_∷_};
 ghost use mathlib.Core.Path.{_≡_};
 ghost use lib.ListN.{take};
@@ -52,13 +53,14 @@ fn examine_model(model: Model, bodies: &[u8], table: &mut [u32]) -> Answer
     let count = model.count;
     let s = model.start;
     let start = start_word(s);
+    let prepared = preparing::prepare(bodies, equations);
     let mut graph = [0u64; 8272];
-    let found = finding::find(bodies, equations, start, table, &mut graph);
+    let found = finding::find(&prepared, equations, start, table, &mut graph);
     if found.over {
         return answers::refuse(9, 0);
     }
     let n = found.count;
-    let truth = solving::solution_of(bodies, equations, count, &table[..n], &graph);
+    let truth = solving::solution_of(&prepared, equations, count, &table[..n], &graph);
     judge(n, truth)
 }
 

@@ -1,4 +1,4 @@
--- LAWS of a formula's value: its truth where what is left of it is known, what the simplified formula says where nothing is.
+-- LAWS of a formula's value: it is the formula's truth where what is left of it is known.
 -- With open taken as true, or as false, a value is the formula's truth; so the laws of that truth speak of values.
 use Prim.Native.Nat.{ℕ}
 use mathlib.Core.Path.{_≡_, refl, sym, ap, ap₂, _∙_}
@@ -7,14 +7,13 @@ use mathlib.Core.List.{List, [], _∷_, _++_}
 use Rattle.meaning.specs.Logic.{_and_, _or_, join, Is, join-drops, join-makes, join-same, over-related}
 use Rattle.meaning.specs.Solution.{Args, Assign, mem}
 use Rattle.meaning.specs.Formulas.{Formula, constant, joined, quantified, compared, instance, holds}
-use Rattle.meaning.specs.Simplification.{Tree, leaf, node, Simplified, decided, left, simplified}
-use Rattle.meaning.specs.Simplification.{tree-holds, simplified-holds}
+use Rattle.meaning.specs.Simplification.{left, simplified}
 use Rattle.meaning.specs.Reach.{Instance, instances}
-use Rattle.meaning.specs.Simplified.{holds-simplified, holds-depends}
+use Rattle.meaning.specs.Simplified.{holds-depends}
 use Rattle.meaning.specs.Words.{word}
 use Rattle.evaluator.specs.declared.Value.{Value}
 use Rattle.evaluator.specs.declared.Value.the-variants.{False, True, Open}
-use Rattle.evaluator.specs.Values.{known, join-value, valued, index-of, value-in}
+use Rattle.evaluator.specs.Values.{known, join-value, valued}
 
 -- a value as a truth value, where open is taken as `b`
 abbrev pub as-truth : Bool → Value → Bool
@@ -58,18 +57,13 @@ valued-truth b (quantified all r f) σ v =
 valued-truth b (compared t a c) σ v = known-truth b _
 valued-truth b (instance e ts) σ v = refl
 
--- a value that is the same whatever open is taken as is known, and one that is what open is taken as is open
+-- a value that is the same whatever open is taken as is known
 known-by : (x : Value) (c : Bool) → ((b : Bool) → as-truth b x ≡ c) → x ≡ known c
 known-by False false h = refl
 known-by False true h = absurd (true≢false (sym (h true)))
 known-by True true h = refl
 known-by True false h = absurd (true≢false (h true))
 known-by Open b h = absurd (true≢false (h true ∙ sym (h false)))
-
-open-by : (x : Value) → ((b : Bool) → as-truth b x ≡ b) → x ≡ Open
-open-by False h = absurd (true≢false (sym (h true)))
-open-by True h = absurd (true≢false (h false))
-open-by Open h = refl
 
 -- σ knows the truth of each instance of a list
 abbrev pub Knows : (ℕ → Value) → Assign → List Instance → Type 0
@@ -80,27 +74,3 @@ pub known-valued : (f : Formula) (σ : ℕ → Value) (θ : Assign) (v : List �
     → Knows σ θ (instances (simplified f v)) → valued f σ v ≡ known (holds f θ v)
 known-valued f σ θ v h = known-by _ _ (λ b. valued-truth b f σ v
     ∙ holds-depends f v (truths b σ) θ (λ e x i. ap (as-truth b) (h e x i) ∙ known-truth b _))
-
--- what a simplified formula says of its value
-abbrev pub told : Simplified → Value
-told (decided c) = known c
-told (left t) = Open
-
--- a tree all of whose instances are as true as b is as true as b
-tree-same : (t : Tree) (b : Bool) → tree-holds t (λ e x. b) ≡ b
-unfolding tree-holds
-tree-same (leaf e x) b = refl
-tree-same (node all t u) b = ap₂ (join all) (tree-same t b) (tree-same u b) ∙ join-same all b
-
-told-by : (s : Simplified) (x : Value) → ((b : Bool) → as-truth b x ≡ simplified-holds s (λ e y. b))
-    → x ≡ told s
-unfolding simplified-holds
-told-by (decided c) x h = known-by x c h
-told-by (left t) x h = open-by x (λ b. h b ∙ tree-same t b)
-
--- with no table the value is what the simplified formula says: a constant, or open
-pub open-everywhere : (f : Formula) (set : ℕ → Bool) (v : List ℕ)
-    → valued f (value-in [] set) v ≡ told (simplified f v)
-unfolding value-in index-of
-open-everywhere f set v = told-by (simplified f v) _
-    (λ b. valued-truth b f (value-in [] set) v ∙ holds-simplified f v (λ e x. b))

@@ -1,3 +1,4 @@
 mod Folding
-pub mod Replies
+mod TermLaws
+pub mod FormulaLaws
 pub mod AsTruth

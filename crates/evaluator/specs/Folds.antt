@@ -1,21 +1,24 @@
--- What the contract of a quantifier's fold says; none of the documents' words is defined here.
--- A quantifier is the fold over all values of its range; each half of a stretch is one over fewer values.
-use Prim.Native.Nat.{ℕ, _+_, _≤_, _<_}
-use mathlib.Core.List.{List, [], _∷_, _++_}
-use Rattle.meaning.specs.Over.{between}
+-- What the contracts of a formula's value and of a quantifier's fold say; none of the documents' words is
+-- defined here. A quantifier is the fold over all values of its range.
+use Prim.Native.Nat.{ℕ}
+use mathlib.Core.Path.{_≡_}
+use mathlib.Core.Bool.{Bool, not}
+use mathlib.Core.List.{List}
+use Rattle.meaning.specs.Logic.{over}
 use Rattle.meaning.specs.Formulas.{Formula}
-use Rattle.formulas.specs.declared.Tuple.{Tuple}
-use Rattle.evaluator.specs.declared.Stretch.{Stretch}
+use Rattle.looked.specs.Looked.{at-value, Settled, SettledOver}
 use Rattle.evaluator.specs.declared.Value.{Value}
+use Rattle.evaluator.specs.declared.Valued.{Valued}
 use Rattle.evaluator.specs.Values.{known, join-value, valued}
 
--- what a quantifier makes of a formula over the values of a stretch
-abbrev pub folded : Stretch → (ℕ → Value) → List ℕ → Formula → Value
-folded s σ v f =
-    between (join-value (s .all)) (known (s .all)) (s .from) (s .to) (λ i. valued f σ (v ++ (i ∷ [])))
+-- r is the value of f, where σ gives the value of each instance's word and the variables in reach have the
+-- values v; and it is that as long as those that were looked at have these values
+pub record FormulaValued (f : Formula) (σ : ℕ → Value) (v : List ℕ) (r : Valued) : Type 0 where
+  pub value : r .value ≡ valued f σ v
+  pub settled : Settled (r .looked) v (valued f σ)
 
--- there is a value in the stretch, and place for its variable
-pub record Foldable (scope : Tuple) (s : Stretch) : Type 0 where
-  pub some : s .from < s .to
-  pub few : s .q < 4
-  pub reach : scope .count ≤ 4 + s .q
+-- the same of what a quantifier makes of f over the first n values of one more variable
+pub record FoldValued (all : Bool) (n : ℕ) (f : Formula) (σ : ℕ → Value) (v : List ℕ) (r : Valued) : Type 0
+  where
+    pub value : r .value ≡ over (join-value all) (known all) 0 n (λ i. at-value (valued f σ) i v)
+    pub settled : SettledOver (known (not all)) n (r .looked) v (valued f σ)

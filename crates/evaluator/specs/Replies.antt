@@ -1,77 +1,50 @@
--- DEFINITIONS: what the evaluator replies, for all inputs: the value of a formula, the word of an instance.
--- Where nothing can be read the reply says so. n bounds how deep the decoder goes: the bytes left are enough.
-use Prim.Native.Nat.{ℕ, _+_, _≤_}
+-- DEFINITIONS: what the evaluator says of a term, of a test and of an instance in a prepared body.
+-- Of each its value, or its word, and the variables that stand in its terms.
+use Prim.Native.Nat.{ℕ, _+_, min}
 use mathlib.Core.Path.{_≡_}
-use mathlib.Core.Bool.{Bool, true, false}
-use mathlib.Core.List.{List, _∷_}
-use lib.Dec.{leb}
-use lib.ListN.{length}
-use Rattle.meaning.specs.Formulas.{Formula, constant, joined, quantified, compared, instance, values}
+use mathlib.Core.List.{List, _∷_, _++_}
+use Rattle.meaning.specs.Formulas.{Term, value, values, test-holds}
 use Rattle.meaning.specs.Words.{word}
-use Rattle.formulas.specs.declared.Tuple.{Tuple}
-use Rattle.formulas.specs.Bodies.{found}
-use Rattle.formulas.specs.Decode.{Parsed, none, some, when, formula-at}
+use Rattle.formulas.specs.declared.Test.{Test}
+use Rattle.formulas.specs.Decode.{test-of}
 use Rattle.formulas.specs.Tuples.{items}
-use Rattle.formulas.specs.Shapes.{instance-at}
-use Rattle.evaluator.specs.declared.Value.{Value}
-use Rattle.evaluator.specs.declared.Value.the-variants.{False}
-use Rattle.evaluator.specs.declared.Valued.{Valued}
+use Rattle.looked.specs.Looked.{both, looked-term, looked-terms}
+use Rattle.prepared.specs.Prepared.{byte-at, end-at, term-there, terms-there}
+use Rattle.evaluator.specs.declared.terms.TermValue.{TermValue}
+use Rattle.evaluator.specs.declared.terms.TermValues.{TermValues}
+use Rattle.evaluator.specs.declared.TestAt.{TestAt}
 use Rattle.evaluator.specs.declared.WordAt.{WordAt}
-use Rattle.evaluator.specs.Values.{valued}
 
--- the formula at a place under q quantifiers: "parameter count k (0 to 4)", so at most 4 + q variables
-abbrev pub formula-there : ℕ → List ℕ → Tuple → ℕ → ℕ → Parsed Formula
-formula-there n s scope q at = when (leb (scope .count) (4 + q)) (formula-at n s (scope .count) q at)
+-- the value of a term where the variables in reach have the values v
+pub record TermValued (t : Term) (v : List ℕ) (r : TermValue) : Type 0 where
+  pub value : r .value ≡ value t v
+  pub looked : r .looked ≡ looked-term t
 
--- the instance whose equation stands at a place: past the end of the bytes there is none
-abbrev pub instance-there : ℕ → List ℕ → Tuple → ℕ → Parsed Formula
-instance-there n s scope at = when (leb at (length s)) (instance-at n s (scope .count) at)
+-- the values of some terms, put after those that are there
+pub record TermsValued (ts : List Term) (v : List ℕ) (got r : TermValues) : Type 0 where
+  pub values : items (r .values) ≡ items (got .values) ++ values ts v
+  pub looked : r .looked ≡ looked-terms (got .looked) ts
 
--- whether something was read, what is said of it, and where it ends
-pub record Reply (Said : Type 0) : Type 0 where
-  pub ok : Bool
-  pub said : Said
-  pub next : ℕ
+-- the terms of the test whose code stands at a place, and the arguments of the instance that does
+abbrev pub first-term : List ℕ → ℕ → Term
+first-term p at = term-there p (at + 1)
 
--- what `d` says of the formula; `nothing` and 0, where there is none
-abbrev pub reply : {Said : Type 0} → Said → (Formula → Said) → Parsed Formula → Reply Said
-reply nothing d none = record { ok = false; said = nothing; next = 0 }
-reply nothing d (some f e) = record { ok = true; said = d f; next = e }
+abbrev pub second-term : List ℕ → ℕ → Term
+second-term p at = term-there p (end-at p (at + 1))
 
--- its value, where σ gives the value of each instance's word
-abbrev pub value-reply : (ℕ → Value) → Tuple → Parsed Formula → Reply Value
-value-reply σ scope = reply False (λ f. valued f σ (items scope))
+abbrev pub arguments-there : List ℕ → ℕ → List Term
+arguments-there p at = terms-there p (min (byte-at p (at + 2)) 4) (at + 3)
 
--- r says this of the formula at `at`
-pub record ValueReply (σ : ℕ → Value) (s : List ℕ) (at : ℕ) (scope : Tuple) (q : ℕ) (r : Valued)
-    : Type 0 where
-  pub replies : (n : ℕ) → length s ≤ n + at
-      → record { ok = r .ok; said = r .value; next = r .next }
-      ≡ value-reply σ scope (formula-there n s scope q at)
+-- the test whose code stands at a place
+abbrev pub test-there : List ℕ → ℕ → List ℕ → Test → TestAt
+test-there p at v t = record {
+  holds = test-holds (test-of t) (value (first-term p at) v) (value (second-term p at) v);
+  looked = both (looked-term (first-term p at)) (looked-term (second-term p at));
+}
 
-abbrev pub no-value : Valued
-no-value = record { ok = false; value = False; next = 0 }
-
--- the value of a whole body: that of the formula at its start; false where there is none
-unfoldable pub body-value : (ℕ → Value) → List ℕ → Tuple → Value
-body-value σ s scope = valued (found (formula-there (length s) s scope 0 0)) σ (items scope)
-
--- the word of an instance, where the variables in reach have the values v
-abbrev pub instance-word : List ℕ → Formula → ℕ
-instance-word v (constant b) = 0
-instance-word v (joined all f g) = 0
-instance-word v (quantified all r f) = 0
-instance-word v (compared t a b) = 0
-instance-word v (instance e ts) = word (e ∷ values ts v)
-
-abbrev pub no-word : WordAt
-no-word = record { ok = false; word = 0; next = 0 }
-
-abbrev pub word-reply : Tuple → Parsed Formula → Reply ℕ
-word-reply scope = reply 0 (instance-word (items scope))
-
--- r is the word of the instance whose equation stands at `at`
-pub record WordReply (s : List ℕ) (at : ℕ) (scope : Tuple) (r : WordAt) : Type 0 where
-  pub replies : (n : ℕ) → length s ≤ n + at
-      → record { ok = r .ok; said = r .word; next = r .next }
-      ≡ word-reply scope (instance-there n s scope at)
+-- the word of the instance whose code stands at a place
+abbrev pub word-there : List ℕ → ℕ → List ℕ → WordAt
+word-there p at v = record {
+  word = word (byte-at p (at + 1) ∷ values (arguments-there p at) v);
+  looked = looked-terms 0 (arguments-there p at);
+}

@@ -1,32 +1,31 @@
-// The value of a formula over the bytes of a body: a formula calls on a quantifier's fold, which calls on the
+// The value of a formula in a prepared body: a formula calls on a quantifier's fold, which calls on the
 // formula inside it. A table of words says which instances have a number, and a set which of these are true.
+// Each value tells which variables were looked at for it: no other one matters, so a quantifier whose own
+// variable was not looked at has the same value for all of its values.
 mod leaves;
 mod tables;
 mod terms;
 mod values;
 
 ghost use mathlib.Core.Path.{_≡_};
-ghost use Prim.Native.Nat.{_+_, _≤_};
-ghost use lib.ListN.{length};
+ghost use Prim.Native.Nat.{_+_, _<_};
 ghost use Rattle.truth.specs.Bits.{bit-of};
-ghost use Rattle.formulas.specs.Contract.{FormulaTold};
 ghost use Rattle.formulas.specs.Tuples.{items};
+ghost use Rattle.prepared.specs.Prepared.{formula-there};
 ghost use Rattle.evaluator.specs.Values.{valued, value-in};
-ghost use Rattle.evaluator.specs.Replies.{ValueReply, body-value};
-ghost use Rattle.evaluator.specs.Folds.{folded, Foldable};
-use basics::element;
-use basics::wide;
+ghost use Rattle.evaluator.specs.Folds.{FormulaValued, FoldValued};
 use formulas::Kind;
 use formulas::Tuple;
 use formulas::is_range;
 use formulas::kind_of;
 use formulas::push;
-use leaves::compare;
-use leaves::instance;
-use leaves::no_formula;
 use leaves::result;
+pub use leaves::test_at;
 pub use leaves::word_at;
+use prepared::byte_at;
+use prepared::end_at;
 pub use tables::lookup;
+use tables::value_of;
 use values::decides;
 use values::joined;
 use values::known;
@@ -38,153 +37,106 @@ pub enum Value {
     Open,
 }
 
-// Whether a formula was read, its value, and the place after it.
+// The value of a formula, and the variables that were looked at for it.
 pub struct Valued {
-    pub ok: bool,
     pub value: Value,
-    pub next: usize,
+    pub looked: u8,
 }
 
-// Whether an instance was read, its word, and the place after it.
+// Whether a test holds, and the variables that were looked at for it.
+pub struct TestAt {
+    pub holds: bool,
+    pub looked: u8,
+}
+
+// The word of an instance, and the variables that were looked at for it.
 pub struct WordAt {
-    pub ok: bool,
     pub word: u32,
-    pub next: usize,
+    pub looked: u8,
 }
 
-// A stretch of a quantifier's values, those from `from` on and below `to`: for all of them, or for some; q
-// quantifiers stand around it.
-pub struct Stretch {
-    pub q: u8,
-    pub all: bool,
-    pub from: u8,
-    pub to: u8,
-}
-
-// The value of the formula that stands at `at`, with q quantifiers around it.
-fn value_in(body: &[u8], at: usize, scope: Tuple, q: u8, table: &[u32], truth: &[u64; 8]) -> Valued
-    requires { ⌜ scope .count ≤ 4 + q ⌝ }
-    ensures { λ r. ⌜ FormulaTold
-        (λ f. r .value ≡ valued f (value-in (now (table .entry)) (bit-of (now (truth .entry)))) (items scope))
-        (now (body .entry)) (length (now (body .entry))) (scope .count) q at (r .ok) (r .next) ⌝ }
+// The value of the formula at a place. The second part of a join is passed over where the first decides.
+fn value_there(body: &[u8], at: usize, scope: Tuple, table: &[u32], truth: &[u64; 8]) -> Valued
+    ensures { λ r. ⌜ FormulaValued (formula-there (now (body .entry)) (scope .count) at)
+        (value-in (now (table .entry)) (bit-of (now (truth .entry)))) (items scope) r ⌝ }
 {
-    if body.len() <= at {
-        return no_formula();
+    if 256 <= at {
+        return result(Value::False, 0);
     }
-    let next = at + 1;
-    let kind = kind_of(element(body, at));
+    let kind = kind_of(byte_at(body, at));
     match kind {
-        Kind::NoFormula => no_formula(),
-        Kind::Constant(b) => result(true, known(b), next),
+        Kind::NoFormula => result(Value::False, 0),
+        Kind::Constant(b) => result(known(b), 0),
         Kind::Join(all) => {
-            // In one place, for a small frame: the first operand, then the second.
-            let mut a = value_in(body, next, scope, q, table, truth);
-            let m = a.next;
-            if !a.ok {
-                return no_formula();
-            }
+            let a = value_there(body, at + 1, scope, table, truth);
             let x = a.value;
-            a = value_in(body, m, scope, q, table, truth);
-            let y = a.value;
-            result(a.ok, joined(all, x, y), a.next)
+            if decides(all, x) {
+                return a;
+            }
+            let b = value_there(body, end_at(body, at + 1), scope, table, truth);
+            let y = b.value;
+            result(joined(all, x, y), looked::both(a.looked, b.looked))
         }
         Kind::Quantifier(all) => {
-            if 4 <= q {
-                return no_formula();
+            let r = byte_at(body, at + 1);
+            if 8 <= scope.count {
+                return result(Value::False, 0);
             }
-            let r = element(body, next);
             if !is_range(r) {
-                return no_formula();
+                return result(Value::False, 0);
             }
-            let stretch = Stretch {
-                q,
-                all,
-                from: 0,
-                to: r,
-            };
-            fold(body, at + 2, scope, stretch, table, truth)
+            fold(body, at + 2, scope, all, r, table, truth)
         }
-        Kind::Compare(t) => compare(body, next, scope, t),
-        Kind::Instance => instance(body, next, scope, table, truth),
+        Kind::Compare(t) => {
+            let a = test_at(body, at, scope, t);
+            result(known(a.holds), a.looked)
+        }
+        Kind::Instance => {
+            let a = word_at(body, at, scope);
+            result(value_of(table, truth, a.word), a.looked)
+        }
     }
 }
 
-// The `and` (the `or`, where `all` is false) of the values that the formula at `at` has where one more
-// variable has the values of a stretch: by halves, the first half first; the second is left out where the
-// first decides.
+// The `and` (the `or`, where `all` is false) of the values that the formula at a place has where one more
+// variable has the values below r, from 0 up. The others are left out where those before them decide, and
+// where the variable was not looked at for these.
 fn fold(
     body: &[u8],
     at: usize,
     scope: Tuple,
-    stretch: Stretch,
+    all: bool,
+    r: u8,
     table: &[u32],
     truth: &[u64; 8],
 ) -> Valued
-    requires { ⌜ Foldable scope stretch ⌝ }
-    ensures { λ r. ⌜ FormulaTold (λ f. r .value ≡ folded stretch
-        (value-in (now (table .entry)) (bit-of (now (truth .entry)))) (items scope) f)
-        (now (body .entry)) (length (now (body .entry))) (scope .count + 1) (stretch .q + 1) at (r .ok)
-        (r .next) ⌝ }
+    requires { ⌜ (0 < r) × (scope .count < 8) ⌝ }
+    ensures { λ x. ⌜ FoldValued all r (formula-there (now (body .entry)) (scope .count + 1) at)
+        (value-in (now (table .entry)) (bit-of (now (truth .entry)))) (items scope) x ⌝ }
 {
-    let q = stretch.q;
-    let all = stretch.all;
-    let from = stretch.from;
-    let to = stretch.to;
-    let half = (to - from) / 2;
-    if half == 0 {
-        return value_in(body, at, push(scope, from), q + 1, table, truth);
+    let mut a = value_there(body, at, push(scope, 0), table, truth);
+    let mut i: u8 = 1;
+    while i < r {
+        let x = a.value;
+        if decides(all, x) {
+            return a;
+        }
+        if !looked::looks_at(a.looked, scope.count) {
+            return a;
+        }
+        let b = value_there(body, at, push(scope, i), table, truth);
+        let y = b.value;
+        a = result(joined(all, x, y), looked::both(a.looked, b.looked));
+        i += 1;
     }
-    let middle = from + half;
-    let first = Stretch {
-        q,
-        all,
-        from,
-        to: middle,
-    };
-    let mut a = fold(body, at, scope, first, table, truth);
-    if !a.ok {
-        return a;
-    }
-    let x = a.value;
-    if decides(all, x) {
-        return a;
-    }
-    let second = Stretch {
-        q,
-        all,
-        from: middle,
-        to,
-    };
-    a = fold(body, at, scope, second, table, truth);
-    let y = a.value;
-    result(a.ok, joined(all, x, y), a.next)
+    a
 }
 
-// The value of the formula that stands at `at`, with q quantifiers around it; at most four variables in
-// reach are parameters.
-pub fn value_at(
-    body: &[u8],
-    at: usize,
-    scope: Tuple,
-    q: u8,
-    table: &[u32],
-    truth: &[u64; 8],
-) -> Valued
-    ensures { λ r. ⌜ ValueReply (value-in (now (table .entry)) (bit-of (now (truth .entry))))
-        (now (body .entry)) at scope q r ⌝ }
-{
-    if 4 + wide(q) < scope.count {
-        return no_formula();
-    }
-    let r = value_in(body, at, scope, q, table, truth);
-    if r.ok { r } else { no_formula() }
-}
-
-// The value of a body, which is one formula; false where it is none.
+// The value of the formula at the beginning of a prepared body.
 pub fn evaluate(body: &[u8], scope: Tuple, table: &[u32], truth: &[u64; 8]) -> Value
-    ensures { λ r. ⌜ r ≡ body-value (value-in (now (table .entry)) (bit-of (now (truth .entry))))
-        (now (body .entry)) scope ⌝ }
+    ensures { λ r. ⌜ r ≡ valued (formula-there (now (body .entry)) (scope .count) 0)
+        (value-in (now (table .entry)) (bit-of (now (truth .entry)))) (items scope) ⌝ }
 {
-    let a = value_at(body, 0, scope, 0, table, truth);
+    let a = value_there(body, 0, scope, table, truth);
     a.value
 }

@@ -1,12 +1,13 @@
-// The values of terms over the bytes of a body: a term calls on the terms inside it.
+// The values of terms in a prepared body, and which variables were looked at for them: a term calls on the
+// terms inside it.
 ghost use mathlib.Core.Path.{_≡_};
-ghost use mathlib.Core.Bool.{false};
 ghost use mathlib.Core.List.{_++_};
 ghost use Prim.Native.Nat.{_+_, _≤_, _<_};
 ghost use Rattle.meaning.specs.Formulas.{calculation, value, values};
-ghost use Rattle.formulas.specs.Contract.{TermTold, TermsTold};
 ghost use Rattle.formulas.specs.Tuples.{items};
-use basics::element;
+ghost use Rattle.looked.specs.Looked.{looked-term, looked-terms};
+ghost use Rattle.prepared.specs.Prepared.{term-there, terms-there};
+ghost use Rattle.evaluator.specs.Replies.{TermValued, TermsValued};
 use basics::wide;
 use formulas::TermKind;
 use formulas::Tuple;
@@ -14,19 +15,19 @@ use formulas::is_range;
 use formulas::item;
 use formulas::push;
 use formulas::term_kind_of;
+use prepared::byte_at;
+use prepared::end_at;
 
-// Whether a term was read, its value, and the place after it.
+// The value of a term, and the variables that were looked at for it.
 pub(crate) struct TermValue {
-    pub(crate) ok: bool,
     pub(crate) value: u8,
-    pub(crate) next: usize,
+    pub(crate) looked: u8,
 }
 
-// Whether some terms in a row were read, their values, and the place after them.
+// The values of some terms in a row, and the variables that were looked at for them.
 pub(crate) struct TermValues {
-    pub(crate) ok: bool,
     pub(crate) values: Tuple,
-    pub(crate) next: usize,
+    pub(crate) looked: u8,
 }
 
 fn calculate(plus: bool, r: u8, a: u8, b: u8) -> u8
@@ -45,82 +46,53 @@ fn calculate(plus: bool, r: u8, a: u8, b: u8) -> u8
     }
 }
 
-// No term was read.
-fn no_term() -> TermValue
-    ensures { λ r. ⌜ r .ok ≡ false ⌝ }
+fn term_value(value: u8, looked: u8) -> TermValue
+    ensures { λ r. ⌜ r ≡ record { value = value; looked = looked } ⌝ }
 {
-    TermValue {
-        ok: false,
-        value: 0,
-        next: 0,
-    }
+    TermValue { value, looked }
 }
 
+// The value of the term at a place.
 pub(crate) fn term(body: &[u8], at: usize, scope: Tuple) -> TermValue
-    ensures { λ r. ⌜ TermTold (λ t. r .value ≡ value t (items scope)) (now (body .entry)) (scope .count) at
-        (r .ok) (r .next) ⌝ }
+    ensures { λ r. ⌜ TermValued (term-there (now (body .entry)) at) (items scope) r ⌝ }
 {
-    if body.len() <= at {
-        return no_term();
+    if 256 <= at {
+        return term_value(0, 0);
     }
-    let x = element(body, at + 1);
-    let next = at + 2;
-    let k = term_kind_of(element(body, at));
+    let x = byte_at(body, at + 1);
+    let k = term_kind_of(byte_at(body, at));
     match k {
-        TermKind::NoTerm => no_term(),
-        TermKind::Number => TermValue {
-            ok: x <= 15,
-            value: x,
-            next,
-        },
-        TermKind::Variable => {
-            let i = wide(x);
-            TermValue {
-                ok: i < scope.count,
-                value: item(scope, x),
-                next,
-            }
-        }
+        TermKind::NoTerm => term_value(0, 0),
+        TermKind::Number => term_value(x, 0),
+        TermKind::Variable => term_value(item(scope, x), looked::only(x)),
         TermKind::Calculation(plus) => {
             if !is_range(x) {
-                return no_term();
+                return term_value(0, 0);
             }
-            let a = term(body, next, scope);
-            let m = a.next;
-            if !a.ok {
-                return no_term();
-            }
-            let b = term(body, m, scope);
-            TermValue {
-                ok: b.ok,
-                value: calculate(plus, x, a.value, b.value),
-                next: b.next,
-            }
+            let a = term(body, at + 2, scope);
+            let b = term(body, end_at(body, at + 2), scope);
+            term_value(
+                calculate(plus, x, a.value, b.value),
+                looked::both(a.looked, b.looked),
+            )
         }
     }
 }
 
-// The values of n terms in a row, put after those in `got`.
-pub(crate) fn arguments(body: &[u8], at: usize, scope: Tuple, n: u8, got: Tuple) -> TermValues
-    requires { ⌜ got .count + n ≤ 8 ⌝ }
-    ensures { λ r. ⌜ TermsTold (λ ts. items (r .values) ≡ items got ++ values ts (items scope)) n
-        (now (body .entry)) (scope .count) at (r .ok) (r .next) ⌝ }
+// The values of n terms in a row, put after those in `got`, for which the variables of the set `looked` were
+// looked at.
+pub(crate) fn arguments(body: &[u8], at: usize, scope: Tuple, n: u8, got: TermValues) -> TermValues
+    requires { ⌜ got .values .count + n ≤ 8 ⌝ }
+    ensures { λ r. ⌜ TermsValued (terms-there (now (body .entry)) n at) (items scope) got r ⌝ }
 {
     if n == 0 {
-        return TermValues {
-            ok: true,
-            values: got,
-            next: at,
-        };
+        return got;
     }
     let a = term(body, at, scope);
-    let m = a.next;
-    if !a.ok {
-        return TermValues {
-            ok: false,
-            values: got,
-            next: at,
-        };
-    }
-    arguments(body, m, scope, n - 1, push(got, a.value))
+    let values = got.values;
+    let more = TermValues {
+        values: push(values, a.value),
+        looked: looked::both(got.looked, a.looked),
+    };
+    arguments(body, end_at(body, at), scope, n - 1, more)
 }

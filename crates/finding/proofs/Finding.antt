@@ -24,10 +24,9 @@ use Rattle.meaning.specs.Stages.{Stage, stage-start, stage-step, stage-typed, s
 use Rattle.formulas.specs.declared.Equation.{Equation}
 use Rattle.truth.specs.Bits.{bit-of, nowhere}
 use Rattle.words.specs.Unpacked.{equation-number}
-use Rattle.instances.specs.Sides.{OneFormula}
 use Rattle.instances.specs.Models.{model-in}
 use Rattle.instances.specs.Graph.{left-in, words-left}
-use Rattle.instances.proofs.Models.{body-there, typed-below, word-number, word-names, word-readable}
+use Rattle.instances.proofs.Models.{body-there, named, typed-below, word-number, word-names, word-readable}
 use Rattle.gathering.specs.declared.Side.{Side}
 use Rattle.gathering.specs.FoundWords.{FoundWords, add, found-within}
 use Rattle.gathering.specs.Filling.{found-of, found-words, found-fits, found-over}
@@ -131,17 +130,12 @@ module _ {bodies : List ℕ} {equations : List Equation} {start count : ℕ} {fi
   next-words [] t = never t
   next-words (e ∷ x) t =
       let m = searchable .model in
-      rw (word-names m e x t, word-number m e x t, body-there bodies equations count e (typed-below m e x t)) refl
-
-  one-formula : (i : Instance) → Is (C i) → OneFormula bodies equations (equation-number (word i))
-  unfolding typed
-  one-formula [] t = never t
-  one-formula (e ∷ x) t = let m = searchable .model in rw (word-number m e x t) (m .formulas e (typed-below m e x t))
+      rw (word-names (named m) e x t, word-number (named m) e x t, body-there bodies equations count e (typed-below m e x t)) refl
 
   few-equations : (i : Instance) → Is (C i) → equation-number (word i) < 8
   unfolding typed
   few-equations [] t = never t
-  few-equations (e ∷ x) t = word-readable (searchable .model) e x t .0
+  few-equations (e ∷ x) t = word-readable (named (searchable .model)) e x t .0
 
   -- no room at all
   pub no-room : {room : ℕ} {t : List ℕ} → room ≡ 0 → FoundIn model first room t t (record { count = 0; over = true })
@@ -233,7 +227,7 @@ module _ {bodies : List ℕ} {equations : List Equation} {start count : ℕ} {fi
         g = in-room s side
 
         told : SideTold bodies equations (getD t i 0) room t t′ n r
-        told = g .told (rw taken-word (one-formula taking is-typed))
+        told = g .told
 
         -- the table has the next stage, as far as there is room
         filled : found-words t′ (found-of room (r .found)) ≡ found-within room (map word found′)

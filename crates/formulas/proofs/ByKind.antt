@@ -3,7 +3,7 @@
 use Prim.Native.Nat.{ℕ, zero, suc, _+_, _-_, _≤_, _<_}
 use native.Mathlib.Omega.{arith}
 use mathlib.Core.Path.{_≡_, refl, sym, _∙_}
-use mathlib.Core.Bool.{Bool, true, false, _&&_}
+use mathlib.Core.Bool.{Bool, true, false}
 use mathlib.Core.List.{List, [], _∷_}
 use lib.Dec.{leb}
 use lib.ListN.{length, getD, List·getD-eq-default}
@@ -21,13 +21,13 @@ use Rattle.formulas.specs.Codes.{kind-of, term-kind-of}
 use Rattle.formulas.specs.Decode.{in-row, nth-term, test-of, term-at, formula-at}
 use Rattle.formulas.specs.Shapes.{no-term-kind, shape-no-term, shape-number, shape-variable, shape-calculation}
 use Rattle.formulas.specs.Shapes.{no-kind, shape-no-formula, shape-constant, shape-join, shape-quantifier}
-use Rattle.formulas.specs.Shapes.{instance-at, shape-compare, shape-instance}
+use Rattle.formulas.specs.Shapes.{shape-compare, shape-instance}
 use Rattle.formulas.specs.Contract.{Told, refused, told, TermTold, TermsTold, InstanceTold}
 use Rattle.formulas.specs.Contract.{ToldWithin, within, FormulaTold}
-use Rattle.formulas.proofs.Told.{told-then, told-stop, told-last, told-when, told-unless, told-map, told-both}
-use Rattle.formulas.proofs.Told.{within-then, within-stop, within-last, within-when, within-map, within-lost}
-use Rattle.formulas.proofs.Told.{told-whole, deep}
-use Rattle.formulas.proofs.Decoded.{Every, From, every-when, every-last, told-on, told-past, told-every}
+use Rattle.formulas.proofs.Told.{told-then, told-stop, told-last, told-when, told-unless, told-map}
+use Rattle.formulas.proofs.Told.{within-then, within-stop, within-last, within-when}
+use Rattle.formulas.proofs.Told.{deep}
+use Rattle.formulas.proofs.Decoded.{told-on, told-past, told-every}
 use Rattle.formulas.proofs.Decoded.{every-term, every-terms, every-formula}
 
 -- ---- terms
@@ -137,36 +137,12 @@ module _ {P : Formula → Type 0} {s : List ℕ} {k at e c : ℕ} (number : c �
   instance-no h = record { tells = λ n _. rw (← number) (told-unless _ _ (lt-leb c 4 h)) }
 
   module _ (few : c ≤ 4) {Q : List Term → Type 0} where
-    pub instance-stop : {one : Bool} {m : ℕ} → TermsTold Q c s k (at + 2) one m → one ≡ false → InstanceTold P s k at false e
-    instance-stop t z = record {
-      tells = λ n l. rw (← number) (told-when _ (le-leb c 4 few) (told-stop _ (rw z at (t .tells n (omega arith)))));
-    }
-
     pub instance-read : {x : ℕ} {ok : Bool} → x ≡ getD s at 0 → TermsTold Q c s k (at + 2) ok e
         → ((l : List Term) → length l ≡ c → Q l → P (instance x l)) → InstanceTold P s k at ok e
     instance-read i t f = record {
       tells = λ n l. rw (← i, ← number) (told-when _ (le-leb c 4 few)
           (told-last _ (told-every (t .tells n (omega arith)) (every-terms s k n c (at + 2))) (λ l q. f l (q .1 .long) (q .0))));
     }
-
--- an instance that was read takes two bytes at least, and what is told of it may be said in other words
-every-instance : {P : Formula → Type 0} (s : List ℕ) (k at n : ℕ) → ((l : List Term) → P (instance (getD s at 0) l))
-    → Every (From P (at + 2)) (instance-at n s k at)
-every-instance s k at n f =
-    every-when (leb (getD s (at + 1) 0) 4) (λ _. every-last (instance (getD s at 0))
-    (every-terms s k n (getD s (at + 1) 0) (at + 2)) (λ l e r. (f l, r .on)))
-
-pub instance-on : {P : Formula → Type 0} {s : List ℕ} {k at e : ℕ} {ok : Bool} → InstanceTold P s k at ok e → ok ≡ true
-    → at + 2 ≤ e
-instance-on {s} {k} {at} t z =
-    told-on {limit = 0} {size = 0} (within (rw z at (t .tells (length s) (omega arith))))
-    (every-instance {P = λ f. f ≡ f} s k at (length s) (λ l. refl))
-
-pub instance-map : {P Q : Formula → Type 0} {s : List ℕ} {k at e : ℕ} {ok : Bool} → InstanceTold Q s k at ok e
-    → ((l : List Term) → Q (instance (getD s at 0) l) → P (instance (getD s at 0) l)) → InstanceTold P s k at ok e
-instance-map {P} {Q} {s} {k} {at} t f = record {
-  tells = λ n l. told-map (told-every (t .tells n l) (every-instance {P = λ g. Q g → P g} s k at n f)) (λ g h. h .1 .0 (h .0));
-}
 
 -- ---- formulas
 -- a formula takes a byte at least
@@ -191,21 +167,6 @@ late s k q at h n =
 
 pub formula-late : {P : Formula → Type 0} {s : List ℕ} {limit k q at e : ℕ} → limit ≤ at → FormulaTold P s limit k q at false e
 formula-late {s} {k} {q} {at} h = record { tells = λ n _. late s k q at h n }
-
--- what is told may be said in other words, also where nothing was read; two things that are told go together, with no limit
-module _ {P Q : Formula → Type 0} {s : List ℕ} {k q at e : ℕ} {ok : Bool} where
-  pub formula-map : {limit : ℕ} → FormulaTold Q s limit k q at ok e → ((f : Formula) → Q f → P f)
-      → FormulaTold P s limit k q at ok e
-  formula-map t f = record { tells = λ n l. within-map (t .tells n l) f }
-
-  pub formula-lost : {limit m : ℕ} → FormulaTold Q s limit k q at ok m → ok ≡ false → FormulaTold P s limit k q at ok e
-  formula-lost t z = record { tells = λ n l. rw z (within-lost (rw z at (t .tells n l))) }
-
-  pub formula-both : {m : ℕ} {yes : Bool} → FormulaTold P s (length s) k q at ok e → FormulaTold Q s (length s) k q at yes m
-      → FormulaTold (λ f. P f × Q f) s (length s) k q at ok e
-  formula-both t u = record {
-    tells = λ n l. within (told-both (told-whole (omega arith) (t .tells n l)) (told-whole (omega arith) (u .tells n l)));
-  }
 
 -- what is read in front of a formula: the code's kind
 pub record Head (s : List ℕ) (at : ℕ) (kind : Kind) : Type 0 where
@@ -244,15 +205,6 @@ module _ {s : List ℕ} {at : ℕ} {kind : Kind} (h : Head s at kind) where
           formula-step (λ n l. rw (shape-join n s k q at all (kinded t)) (within-then _ (rw z at (first .tells n l))
           (λ x p. within-last _ (second .tells n (omega (arith, formula-on first z))) (λ y r. f x y p r))))
 
-      -- where the code does not say whether the operands were read
-      pub formula-joined : {R : Formula → Type 0} {ok : Bool} → limit ≤ low + 1 → FormulaTold R s limit k q m ok e
-          → ((f g : Formula) → Q f → R g → P (joined all f g)) → FormulaTold P s limit k q at (one && ok) e
-      formula-joined {ok} b second f = by-first one refl
-        where
-          by-first : (z : Bool) → one ≡ z → FormulaTold P s limit k q at (z && ok) e
-          by-first true z = formula-join z second f
-          by-first false z = formula-join-stop b z
-
     module _ {all : Bool} (t : kind ≡ Quantifier all) where
       pub formula-fifth : 4 ≤ q → FormulaTold P s limit k q at false e
       formula-fifth d =
@@ -277,18 +229,6 @@ module _ {s : List ℕ} {at : ℕ} {kind : Kind} (h : Head s at kind) where
         → FormulaTold P s limit k q at ok e
     formula-compare {test} t two f =
         formula-step (λ n l. rw (shape-compare n s k q at test (kinded t)) (within (told-last _ (two .tells n l) f)))
-
-    -- a test that was read is a test: what is told of it may be said in other words
-    pub formula-compare-as : {Q : Formula → Type 0} {test : Test} {ok : Bool} → kind ≡ Compare test
-        → FormulaTold Q s (length s) k q at ok e
-        → ((a b : Term) → Q (compared (test-of test) a b) → P (compared (test-of test) a b))
-        → FormulaTold P s limit k q at ok e
-    formula-compare-as {Q} {test} t u f =
-        formula-step (λ n l.
-        let shape = shape-compare n s k q at test (kinded t) in
-        rw shape (within (told-map (told-every {Q = λ g _. Q g → P g}
-        (rw shape at (told-whole (omega arith) (u .tells (suc n) (omega arith))))
-        (every-last _ (every-terms s k n 2 (at + 1)) (λ ts e _. f (nth-term ts 0) (nth-term ts 1)))) (λ g h. h .1 (h .0)))))
 
     pub formula-instance : {ok : Bool} → kind ≡ Instance → InstanceTold P s k (at + 1) ok e → FormulaTold P s limit k q at ok e
     formula-instance t i = formula-step (λ n l. rw (shape-instance n s k q at (kinded t)) (within (i .tells n l)))

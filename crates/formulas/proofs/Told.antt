@@ -32,20 +32,11 @@ module _ {A : Type 0} {P : A → Type 0} {e : ℕ} where
   pub told-unless : (p : Parsed A) (b : Bool) → b ≡ false → Told P e (when b p) false
   told-unless p b h = rw h refused
 
--- what is told of one reading may be said in other words; two things told of one reading go together
+-- what is told of one reading may be said in other words
 pub told-map : {A : Type 0} {P Q : A → Type 0} {p : Parsed A} {e : ℕ} {ok : Bool} → Told P e p ok
     → ((a : A) → P a → Q a) → Told Q e p ok
 told-map refused f = refused
 told-map (told {a} h) f = told (f a h)
-
-pub told-both : {A : Type 0} {P Q : A → Type 0} {p : Parsed A} {e m : ℕ} {ok yes : Bool} → Told P e p ok
-    → Told Q m p yes → Told (λ a. P a × Q a) e p ok
-told-both refused refused = refused
-told-both (told h) (told g) = told (h, g)
-
--- where something was read for sure
-pub told-read : {A : Type 0} {P : A → Type 0} {a : A} {e m : ℕ} {ok : Bool} → Told P e (some a m) ok → P a
-told-read (told h) = h
 
 -- ---- a whole body
 pub told-ends : {A : Type 0} {P : A → Type 0} {p : Parsed A} {e : ℕ} {ok : Bool} (z : ℕ) → Told P e p ok
@@ -74,17 +65,6 @@ module _ {A B : Type 0} {P : A → Type 0} {Q : B → Type 0} {limit size : ℕ}
       → ((a : A) (j : ℕ) → low < j → ToldWithin limit size Q e (k a j) false) → ToldWithin limit size Q e (then p k) false
   within-stop k (within refused) f = within refused
   within-stop k (past {a} {m} x y) f = f a m y
-
-pub within-map : {A : Type 0} {P Q : A → Type 0} {p : Parsed A} {limit size e : ℕ} {ok : Bool} → ToldWithin limit size P e p ok
-    → ((a : A) → P a → Q a) → ToldWithin limit size Q e p ok
-within-map (within t) f = within (told-map t f)
-within-map (past x y) f = past x y
-
--- of what was not read all may be said
-pub within-lost : {A : Type 0} {P Q : A → Type 0} {p : Parsed A} {limit size e m : ℕ} → ToldWithin limit size P e p false
-    → ToldWithin limit size Q m p false
-within-lost (within refused) = within refused
-within-lost (past x y) = past x y
 
 module _ {A : Type 0} {P : A → Type 0} {limit size e : ℕ} where
   pub within-when : {p : Parsed A} {ok : Bool} (b : Bool) → b ≡ true → ToldWithin limit size P e p ok

@@ -1,45 +1,48 @@
 -- Gathering the instances left in a formula: a law for each way through the functions that gather.
 -- A connective that no part decides leaves what its parts leave; of a decided one nothing, and what was added is taken back.
-use Prim.Native.Nat.{ℕ, _+_, _≤_, _<_}
+use Prim.Native.Nat.{ℕ, _+_, _-_, _≤_, _<_}
 use native.Mathlib.Omega.{arith}
 use native.Mathlib.Nat.{sub-zero}
-use mathlib.Core.Path.{_≡_, refl, sym, ap, ap₂, _∙_}
-use mathlib.Core.Bool.{Bool, true, false, true≢false, cond, _&&_}
+use mathlib.Core.Path.{_≡_, refl, sym, ap, ap₂, _∙_, fun-ext}
+use mathlib.Core.Bool.{Bool, true, false, true≢false, cond, not}
 use mathlib.Core.List.{List, [], _∷_, _++_}
+use lib.Dec.{ltb}
 use lib.ListN.{length}
+use borrow.Author.Tests.{ltb-true}
 use Rattle.meaning.specs.Logic.{over, over-related}
 use Rattle.meaning.specs.Over.{between, between-one, between-parts}
-use Rattle.meaning.specs.Formulas.{Formula, quantified}
+use Rattle.meaning.specs.Formulas.{Formula, constant, quantified, test-holds}
+use Rattle.meaning.specs.Ranges.{is-range}
 use Rattle.meaning.specs.Typed.{range-positive}
-use Rattle.meaning.specs.Simplification.{Simplified, decided, left, join-simplified, simplified}
+use Rattle.meaning.specs.Simplification.{leaf, Simplified, decided, left, join-simplified, simplified}
 use Rattle.meaning.specs.Reach.{leaves, instances}
 use Rattle.formulas.specs.declared.Kind.{Kind}
-use Rattle.formulas.specs.declared.Kind.the-variants.{Join, Quantifier, Compare, Instance}
+use Rattle.formulas.specs.declared.Kind.the-variants.{NoFormula, Constant, Join, Quantifier, Compare, Instance}
 use Rattle.formulas.specs.declared.Test.{Test}
-use Rattle.formulas.specs.declared.Tuple.{Tuple}
-use Rattle.formulas.specs.Contract.{FormulaTold}
-use Rattle.formulas.specs.Tuples.{items}
-use Rattle.formulas.proofs.ByKind as law
+use Rattle.formulas.specs.Decode.{test-of}
 use Rattle.truth.specs.Bits.{bit-of, put-in}
-use Rattle.evaluator.specs.declared.Stretch.{Stretch}
-use Rattle.evaluator.specs.declared.Valued.{Valued}
-use Rattle.evaluator.specs.Values.{value-in}
-use Rattle.evaluator.specs.Replies.{ValueReply}
-use Rattle.evaluator.proofs.Replies.{value-told}
-use Rattle.evaluator.proofs.AsTruth.{told, open-everywhere}
+use Rattle.looked.specs.Looked.{looks-at, at-value, Settled}
+use Rattle.looked.proofs.Laws.{settled-constant, settled-map, settled-both, settled-decided, settled-term, settled-values}
+use Rattle.looked.proofs.OverLaws.{settled-over, over-decided, over-one, over-first, over-more, one-for-all}
+use Rattle.looked.proofs.OverLaws.{over-all}
+use Rattle.prepared.specs.Prepared.{byte-at, end-at, formula-by, formula-there, term-there}
+use Rattle.prepared.proofs.Steps.{formula-step}
+use Rattle.evaluator.specs.Replies.{first-term, second-term, arguments-there, test-there}
+use Rattle.evaluator.proofs.FormulaLaws.{Head}
 use Rattle.instances.specs.Graph.{words-left}
 use Rattle.gathering.specs.declared.Shape.{Shape}
+use Rattle.gathering.specs.declared.Shape.the-variants.{Decided}
 use Rattle.gathering.specs.declared.shapes.Left.{Left}
 use Rattle.gathering.specs.FoundWords.{FoundWords, add, noted}
 use Rattle.gathering.proofs.FoundWordsLaws.{add-append, noted-append, found-before}
 use Rattle.gathering.specs.Shapes.{is-decided, decides, joined-shape, shape-of, tree-shape}
 use Rattle.gathering.specs.Shapes.{Gist, gist, joined-gist, no-gist}
 use Rattle.gathering.proofs.ShapeLaws.{pair, shape-join, gist-associative, gist-unit, gist-last, none-decides, none-left}
-use Rattle.gathering.proofs.ShapeLaws.{decider-joined, decider-whole, open-decides-none, words-joined}
-use Rattle.gathering.specs.Gathered.{stretch-of, left-of, joined-parts, value-shape, first-shape}
-use Rattle.gathering.specs.Gathered.{ReadTold, LeftTold, EndTold, RangeTold, a-fifth, no-range, a-range}
-use Rattle.gathering.specs.Gathered.{Store, store, Takes, TakesLeft, TakesParts, Gathers}
-use Rattle.gathering.specs.Gathered.{GathersInstance, unread, read, GathersLeft, GathersOver}
+use Rattle.gathering.proofs.ShapeLaws.{decider-joined, decider-whole, open-decides-none, words-joined, decider-is}
+use Rattle.gathering.proofs.ShapeLaws.{joins-decided}
+use Rattle.gathering.proofs.Repeats.{copies, takes-copies}
+use Rattle.gathering.specs.Gathered.{range-of, left-of, joined-parts, Store, store, Takes, TakesLeft}
+use Rattle.gathering.specs.Gathered.{TakesParts, Within, GathersInstance, GathersLeft, GathersOver}
 
 -- ---- what is taken
 module _ {room : ℕ} where
@@ -61,14 +64,14 @@ module _ {room : ℕ} where
 -- ---- the parts of a connective
 module _ (all : Bool) {room : ℕ} where
   part-alone : {t e : Store} {a : Shape} {x : Gist} → TakesLeft room t e a x → TakesParts all room t e a x
-  part-alone {x = x} p = record { taken = x .0; takes = p; whole = λ _. refl }
+  part-alone {x = x} p = record { taken = x .0; takes = p; whole = λ _. p }
 
   parts-both : {t m e : Store} {a b : Shape} {x y : Gist} → TakesParts all room t m a x → TakesParts all room m e b y
       → TakesParts all room t e (joined-shape all a b) (joined-gist all x y)
   parts-both {x = x} {y = y} p q = record {
     taken = p .taken ++ q .taken;
     takes = takes-both all (p .takes) (q .takes);
-    whole = λ h. let free = none-decides all (x .1) (y .1) h in ap₂ _++_ (p .whole (free .0)) (q .whole (free .1));
+    whole = λ h. let free = none-decides all (x .1) (y .1) h in takes-both all (p .whole (free .0)) (q .whole (free .1));
   }
 
   -- the second is left out where the first decides
@@ -82,6 +85,12 @@ module _ (all : Bool) {room : ℕ} where
         takes = record { added = p .takes .added; noted = p .takes .noted; shaped = sym first };
         whole = λ h. absurd (true≢false (sym z ∙ ap (decides all) (sym first) ∙ h));
       }
+
+  -- where none decides, more of the same are taken with them
+  parts-copies : {t e : Store} {a : Shape} (y : Gist) (v n m : ℕ) → 0 < n → n < m → decides all a ≡ false
+      → TakesParts all room t e a (copies all y v n) → TakesParts all room t e (joined-shape all a a) (copies all y v m)
+  parts-copies y v n m l h z p =
+      part-alone (takes-copies all y v n m l h (p .whole (ap (decides all) (sym (p .takes .shaped)) ∙ z)))
 
 -- x is what s leaves, part by part: its words are all left where no part decides
 record Sums (all : Bool) (s : Simplified) (x : Gist) : Type 0 where
@@ -108,9 +117,17 @@ module _ (all : Bool) where
   sums-over p v n = over-related (Sums all) (join-simplified all) (joined-gist all) sums-join
       (record { shape = refl; words = λ _. refl }) v n p (λ i. gist (p i)) (λ i _ _. sums-itself (p i))
 
+-- ---- one store and then another
+within-both : {t m e : Store} → Within t m → Within m e → Within t e
+within-both p q = record { few = omega (arith, p .size, q .few); size = q .size ∙ p .size }
+
 -- ---- what was added is taken back where the whole is decided
 abbrev back : Bool → Store → Store → Store
 back d t e = store (e .table) (cond d (t .found) (e .found)) (cond d (t .reads) (e .reads))
+
+within-back : (d : Bool) {t e : Store} → t .found ≤ length (t .table) + 1 → Within t e → Within t (back d t e)
+within-back true l w = record { few = l; size = w .size }
+within-back false l w = w
 
 module _ {all : Bool} {t e : Store} {shape : Shape} {x : Gist} where
   taken-back : (s : Simplified) → Sums all s x → TakesParts all (length (t .table)) t e shape x
@@ -131,197 +148,230 @@ module _ {all : Bool} {t e : Store} {shape : Shape} {x : Gist} where
             shaped = shaped;
           })
       go false d =
-          let same = p .whole (ap (decides all) (sym (p .takes .shaped)) ∙ open-decides-none all shape d)
-          ∙ sym (sums .words (ap (decides all) (sym (p .takes .shaped)) ∙ open-decides-none all shape d)) in
-          rw (← same) (record { added = p .takes .added; noted = p .takes .noted; shaped = shaped })
-
--- ---- whether something is left, by the value where nothing is known of any instance
-told-shape : (x : Simplified) → value-shape (told x) ≡ first-shape x
-told-shape (decided true) = refl
-told-shape (decided false) = refl
-told-shape (left l) = refl
-
-module _ {body : List ℕ} {at : ℕ} {scope : Tuple} {q : ℕ} (set : ℕ → Bool) {r : Valued}
-    (reach : scope .count ≤ 4 + q) (v : ValueReply (value-in [] set) body at scope q r) where
-  pub left-valued : {shape : Shape} → r .ok ≡ true → shape ≡ value-shape (r .value)
-      → LeftTold body at scope q (left-of (r .next) shape)
-  left-valued z h = record {
-    on = omega (arith, law.formula-on (value-told reach v) z);
-    there = r .ok;
-    told = law.formula-map (value-told reach v)
-        (λ f x. h ∙ ap value-shape (x ∙ open-everywhere f set (items scope)) ∙ told-shape (simplified f (items scope)));
-  }
-
-  pub left-unread : {shape : Shape} → r .ok ≡ false → LeftTold body at scope q (left-of at shape)
-  left-unread z = record { on = omega arith; there = r .ok; told = law.formula-lost (value-told reach v) z }
-
--- ---- what is told may be told of another place, and in other words
-pub told-again : {P Q : Formula → Type 0} {body : List ℕ} {k q at next : ℕ} → ReadTold P body k q at next
-    → ((f : Formula) → P f → Q f) → ReadTold Q body k q at next
-told-again t f = record { on = t .on; there = t .there; told = law.formula-map (t .told) f }
+          let free = ap (decides all) (sym (p .takes .shaped)) ∙ open-decides-none all shape d in
+          let whole = p .whole free in
+          rw (sums .words free) (record { added = whole .added; noted = whole .noted; shaped = shaped })
 
 -- ---- nothing is added
-pub gather-nothing : {x : Formula → Gist} {body : List ℕ} {k q at : ℕ} {t : Store} {r : Left} {ok : Bool}
-    → t .found ≤ length (t .table) + 1 → at ≤ r .next
-    → FormulaTold (λ f. x f ≡ pair [] (r .shape)) body (length body) k q at ok (r .next)
-    → Gathers (λ f. TakesLeft (length (t .table)) t t (r .shape) (x f)) (length (t .table)) body k q at t t (r .next)
-gather-nothing {ok} l o u = record {
-  few = l;
-  size = refl;
-  walked = record { on = o; there = ok; told = law.formula-map u (λ f h. takes-none h) };
-}
+module _ {f : Formula} {v : List ℕ} {t : Store} {r : Left} (l : t .found ≤ length (t .table) + 1) where
+  gather-nothing : gist (simplified f v) ≡ pair [] (r .shape) → Settled (r .looked) v (simplified f)
+      → GathersLeft f v t t r
+  gather-nothing e s = record { within = record { few = l; size = refl }; takes = takes-none e; settled = s }
 
--- a test is never left: it is evaluated to know its value and where it ends
-pub gather-compare : {body : List ℕ} {at q : ℕ} (scope : Tuple) {kind : Kind} {test : Test} {o : Left} {t : Store}
-    → law.Head body at kind → kind ≡ Compare test → t .found ≤ length (t .table) + 1 → LeftTold body at scope q o
-    → GathersLeft q (items scope) body (scope .count) at t t o
+pub gather-constant : {f : Formula} (v : List ℕ) {t : Store} (b : Bool) → t .found ≤ length (t .table) + 1 → f ≡ constant b
+    → GathersLeft f v t t (left-of (Decided b) 0)
 unfolding simplified instances shape-of
-gather-compare scope head e l u =
-    gather-nothing l (u .on) (law.formula-compare-as head e (u .told) (λ _ _ h. ap (pair []) (sym h)))
+gather-constant v b l e = rw e (gather-nothing l refl (settled-constant (decided b)))
 
--- an instance is left itself
-pub gather-instance : {body : List ℕ} {at : ℕ} {scope : Tuple} {kind : Kind} (q : ℕ) {t e : Store} {x : Left}
-    → law.Head body at kind → kind ≡ Instance → t .found ≤ length (t .table) + 1 → GathersInstance body at scope t e x
-    → GathersLeft q (items scope) body (scope .count) at t e x
-unfolding simplified instances leaves shape-of tree-shape add noted
-gather-instance q head h l (unread i z) = gather-nothing l (omega arith) (law.formula-lost (law.formula-instance head h i) z)
-gather-instance q {t = t} head h l (read {ok} i z a n) = record {
-  few = a .within;
-  size = a .size;
-  walked = record {
-    on = omega (arith, law.instance-on i z);
-    there = ok;
-    told = law.formula-instance head h (law.instance-map i (λ l w. rw (← w) (record {
-      added = a .added;
-      noted = n ∙ ap (λ (j : ℕ). put-in (bit-of (t .reads)) j true) (a .numbered);
-      shaped = refl;
-    })));
-  };
-}
+-- ---- the formula at a place, by the kind of the code that stands there
+-- the formula of a kind at a place
+abbrev formula-of : Kind → List ℕ → ℕ → ℕ → Formula
+formula-of kind p = formula-by (term-there p) (formula-there p) kind p
 
--- ---- a quantifier: it has a range, or it is not read
-pub unranged : {body : List ℕ} {at : ℕ} {kind : Kind} {all : Bool} → law.Head body at kind → kind ≡ Quantifier all
-    → {P : Formula → Type 0} {k q r e : ℕ} → RangeTold body (at + 1) q r → r ≡ 0
-    → FormulaTold P body (length body) k q at false e
-unranged head h (a-fifth d) z = law.formula-fifth head h d
-unranged head h (no-range d n) z = law.formula-quantifier-no head h d refl n
-unranged head h (a-range {r} d b i) z = absurd (omega (arith, range-positive r i, z))
+module _ {p : List ℕ} {at : ℕ} {kind : Kind} (head : Head p at kind) (k : ℕ) where
+  by-kind : {is : Kind} → kind ≡ is → formula-there p k at ≡ formula-of is p k at
+  by-kind e = formula-step p k at (head .inside) ∙ ap (λ (x : Kind). formula-of x p k at) (sym (head .named) ∙ e)
 
--- a range is told only where one more quantifier may be
-pub range-few : {body : List ℕ} {at q r : ℕ} → RangeTold body at q r → 0 < r → q < 4
-range-few (a-fifth d) l = absurd (omega arith)
-range-few (no-range d n) l = d
-range-few (a-range d b i) l = d
+  -- a quantifier has a range, or there is no formula
+  module _ {all : Bool} (h : kind ≡ Quantifier all) {r : ℕ} (is : r ≡ range-of p at k) where
+    unranged : r ≡ 0 → formula-there p k at ≡ constant false
+    unfolding formula-by
+    unranged z = by-kind h ∙ go (ltb k 8) (is-range byte) refl (sym is ∙ z)
+      where
+        byte : ℕ
+        byte = byte-at p (at + 1)
 
-few-back : (d : Bool) {n m room : ℕ} → n ≤ room → m ≤ room → cond d n m ≤ room
-few-back true l h = l
-few-back false l h = h
+        go : (b c : Bool) → is-range byte ≡ c → cond b (cond c byte 0) 0 ≡ 0
+            → cond b (cond c (quantified all byte (formula-there p (k + 1) (at + 2))) (constant false)) (constant false)
+            ≡ constant false
+        go false c e z = refl
+        go true false e z = refl
+        go true true e z = absurd (omega (arith, range-positive byte e, z))
 
--- ---- the parts of a formula
-module _ {body : List ℕ} {at : ℕ} {kind : Kind} (head : law.Head body at kind) (v : List ℕ) {k q : ℕ} where
-  module _ {all : Bool} (h : kind ≡ Join all) {t m : Store} {x : Left} (first : GathersLeft q v body k (at + 1) t m x) where
-    -- the first part decides: of the second only its end is asked
-    pub gather-first : {next : ℕ} → decides all (x .shape) ≡ true → EndTold body k q (x .next) next
-        → GathersLeft q v body k at t m (left-of next (x .shape))
+    ranged : 0 < r → formula-there p k at ≡ quantified all r (formula-there p (k + 1) (at + 2))
+    unfolding formula-by
+    ranged l = by-kind h ∙ rw is (go (ltb k 8) (is-range byte) (rw is at l))
+      where
+        byte : ℕ
+        byte = byte-at p (at + 1)
+
+        go : (b c : Bool) → 0 < cond b (cond c byte 0) 0
+            → cond b (cond c (quantified all byte (formula-there p (k + 1) (at + 2))) (constant false)) (constant false)
+            ≡ quantified all (cond b (cond c byte 0) 0) (formula-there p (k + 1) (at + 2))
+        go false c z = absurd (omega arith)
+        go true false z = absurd (omega arith)
+        go true true z = refl
+
+module _ {p : List ℕ} {at : ℕ} {kind : Kind} (head : Head p at kind) (k : ℕ) (v : List ℕ) {t : Store} where
+  pub gather-none : kind ≡ NoFormula → t .found ≤ length (t .table) + 1
+      → GathersLeft (formula-there p k at) v t t (left-of (Decided false) 0)
+  unfolding formula-by
+  gather-none h l = gather-constant v false l (by-kind head k h)
+
+  pub gather-known : {b : Bool} → kind ≡ Constant b → t .found ≤ length (t .table) + 1
+      → GathersLeft (formula-there p k at) v t t (left-of (Decided b) 0)
+  unfolding formula-by
+  gather-known {b} h l = gather-constant v b l (by-kind head k h)
+
+  -- a test is never left
+  pub gather-compare : {test : Test} → kind ≡ Compare test → t .found ≤ length (t .table) + 1
+      → let a = test-there p at v test in
+      GathersLeft (formula-there p k at) v t t (left-of (Decided (a .holds)) (a .looked))
+  unfolding simplified instances shape-of formula-by
+  gather-compare {test} h l = rw (by-kind head k h) (gather-nothing l refl
+      (settled-both (λ (x y : ℕ). decided (test-holds (test-of test) x y)) (settled-term (first-term p at) v)
+      (settled-term (second-term p at) v)))
+
+  -- an instance is left itself
+  pub gather-instance : {e : Store} {r : Left} → kind ≡ Instance → GathersInstance p at v t e r
+      → GathersLeft (formula-there p k at) v t e r
+  unfolding simplified instances leaves shape-of tree-shape add noted formula-by
+  gather-instance h g =
+      rw (by-kind head k h, g .told, g .counted) (record {
+        within = record { few = omega (arith, g .counted, g .added .within); size = g .added .size };
+        takes = record {
+          added = g .added .added;
+          noted = g .noted ∙ ap (λ (j : ℕ). put-in (bit-of (t .reads)) j true) (g .added .numbered);
+          shaped = refl;
+        };
+        settled = settled-map (λ (x : List ℕ). left (leaf (byte-at p (at + 1)) x))
+            (settled-values (arguments-there p at) 0 v);
+      })
+
+  -- ---- a join
+  module _ {all : Bool} (h : kind ≡ Join all) {m : Store} {x : Left}
+      (first : GathersLeft (formula-there p k (at + 1)) v t m x) where
+    -- the first part decides: the second is passed over
+    pub gather-first : decides all (x .shape) ≡ true → GathersLeft (formula-there p k at) v t m x
+    unfolding simplified formula-by
+    gather-first z =
+        let f = formula-there p k (at + 1) in
+        let g = formula-there p k (end-at p (at + 1)) in
+        let it-does = ap (decides all) (sym (first .takes .shaped)) ∙ z in
+        rw (by-kind head k h) (record {
+          within = first .within;
+          takes = rw (decider-whole all (simplified f v) (simplified g v) it-does) (first .takes);
+          settled = settled-decided (join-simplified all) (decided (not all)) (joins-decided all .first)
+              (decider-is all (simplified f v) it-does) (first .settled) (simplified g);
+        })
+
+    pub gather-join : {e : Store} {y : Left} {next : ℕ} → next ≡ end-at p (at + 1) → t .found ≤ length (t .table) + 1
+        → GathersLeft (formula-there p k next) v m e y
+        → let whole = joined-parts all x y in
+        GathersLeft (formula-there p k at) v t (back (is-decided (whole .shape)) t e) whole
+    unfolding simplified formula-by
+    gather-join {y = y} {next = next} n l second =
+        let f = formula-there p k (at + 1) in
+        let g = formula-there p k next in
+        rw (by-kind head k h, ← n) (record {
+          within = within-back (is-decided (joined-shape all (x .shape) (y .shape))) l
+              (within-both (first .within) (second .within));
+          takes = taken-back (join-simplified all (simplified f v) (simplified g v))
+              (sums-join all _ _ _ _ (sums-itself all (simplified f v)) (sums-itself all (simplified g v)))
+              (parts-both all (part-alone all (first .takes)) (part-alone all (rw (first .within .size) at (second .takes))));
+          settled = settled-both (join-simplified all) (first .settled) (second .settled);
+        })
+
+  -- ---- a quantifier
+  module _ {all : Bool} (h : kind ≡ Quantifier all) {r : ℕ} (is : r ≡ range-of p at k) where
+    pub gather-unranged : r ≡ 0 → t .found ≤ length (t .table) + 1
+        → GathersLeft (formula-there p k at) v t t (left-of (Decided false) 0)
+    gather-unranged z l = gather-constant v false l (unranged head k h is z)
+
+    pub gather-quantifier : {e : Store} {x : Left} → 0 < r → t .found ≤ length (t .table) + 1
+        → GathersOver all r (formula-there p (k + 1) (at + 2)) v t e x
+        → GathersLeft (formula-there p k at) v t (back (is-decided (x .shape)) t e) x
     unfolding simplified
-    gather-first z end = record {
-      few = first .few;
-      size = first .size;
-      walked = record {
-        on = omega (arith, first .walked .on, end .on);
-        there = first .walked .there && end .there;
-        told = law.formula-joined head h (first .walked .told) (omega arith) (end .told) (λ f g p _.
-            rw (decider-whole all (simplified f v) (simplified g v) (ap (decides all) (sym (p .shaped)) ∙ z)) p);
-      };
-    }
+    gather-quantifier {x = x} l few g =
+        let f = formula-there p (k + 1) (at + 2) in
+        rw (ranged head k h is l) (record {
+          within = within-back (is-decided (x .shape)) few (g .within);
+          takes = taken-back (simplified (quantified all r f) v) (sums-over all (λ i. at-value (simplified f) i v) 0 r)
+              (g .parts);
+          settled = settled-over (joins-decided all) (g .settled);
+        })
 
-    pub gather-join : {e : Store} {y : Left} → t .found ≤ length (t .table) + 1 → GathersLeft q v body k (x .next) m e y
-        → let whole = joined-parts all (x .shape) y in
-        GathersLeft q v body k at t (back (is-decided (whole .shape)) t e) whole
-    unfolding simplified
-    gather-join {y = y} l second =
-        let b = rw (first .size) at second in record {
-          few = few-back (is-decided (joined-shape all (x .shape) (y .shape))) l (b .few);
-          size = second .size ∙ first .size;
-          walked = record {
-            on = omega (arith, first .walked .on, second .walked .on);
-            there = first .walked .there && b .walked .there;
-            told = law.formula-joined head h (first .walked .told) (omega arith) (b .walked .told) (λ f g p q.
-                taken-back (join-simplified all (simplified f v) (simplified g v))
-                (sums-join all _ _ _ _ (sums-itself all (simplified f v)) (sums-itself all (simplified g v)))
-                (parts-both all (part-alone all p) (part-alone all q)));
-          };
+-- a range is told only where there is place for one more variable
+pub range-place : (p : List ℕ) (at k : ℕ) → 0 < range-of p at k → k < 8
+range-place p at k l = go (ltb k 8) refl l
+  where
+    go : (b : Bool) → ltb k 8 ≡ b → 0 < cond b (cond (is-range (byte-at p (at + 1))) (byte-at p (at + 1)) 0) 0 → k < 8
+    go true e z = ltb-true k 8 e
+    go false e z = absurd (omega arith)
+
+-- ---- the values of a quantified variable
+-- what is left where one more variable has the value i, and at the first n of its values
+abbrev at-one-value : Formula → List ℕ → ℕ → Gist
+at-one-value f v i = gist (at-value (simplified f) i v)
+
+abbrev at-values : Bool → Formula → List ℕ → ℕ → Gist
+at-values all f v n = over (joined-gist all) (no-gist all) 0 n (at-one-value f v)
+
+-- those below a place, and those from it on
+together : (all : Bool) (v : List ℕ) (f : Formula) {n m : ℕ} → n ≤ m
+    → joined-gist all (at-values all f v n) (between (joined-gist all) (no-gist all) n m (at-one-value f v)) ≡ at-values all f v m
+together all v f {n} {m} l = rw (sub-zero n, sub-zero m) at
+    (between-parts (joined-gist all) (no-gist all) (gist-associative all) (gist-unit all) (at-one-value f v)
+    {from = 0} {mid = n} {to = m} (omega arith) l)
+
+one-more : (all : Bool) (v : List ℕ) (f : Formula) (n : ℕ)
+    → joined-gist all (at-values all f v n) (at-one-value f v n) ≡ at-values all f v (n + 1)
+one-more all v f n =
+    ap (joined-gist all (at-values all f v n)) (sym (between-one (joined-gist all) (no-gist all) (at-one-value f v)
+    {from = n} {to = n + 1} (omega arith) (omega arith) ∙ gist-last all (at-one-value f v n)))
+    ∙ together all v f (omega arith)
+
+-- the formula at a place with one more variable in reach, which has the value i
+pub with-value : (p : List ℕ) (at k i : ℕ) (v : List ℕ) {j : ℕ} {w : List ℕ} {t e : Store} {x : Left}
+    → (j ≡ k + 1) × (w ≡ v ++ (i ∷ [])) → GathersLeft (formula-there p j at) w t e x
+    → GathersLeft (formula-there p (k + 1) at) (v ++ (i ∷ [])) t e x
+with-value p at k i v h g = rw (h .0, h .1) at g
+
+module _ (all : Bool) (v : List ℕ) {f : Formula} where
+  pub gather-one : {t e : Store} {x : Left} → GathersLeft f (v ++ (0 ∷ [])) t e x → GathersOver all 1 f v t e x
+  unfolding over
+  gather-one g = record {
+    within = g .within;
+    parts = rw (gist-last all (at-one-value f v 0)) (part-alone all (g .takes));
+    settled = over-one (g .settled);
+  }
+
+  -- all values are gone through
+  pub gather-all : {n r : ℕ} {t m : Store} {x : Left} → n ≡ r → GathersOver all n f v t m x → GathersOver all r f v t m x
+  gather-all e g = rw e at g
+
+  module _ {n : ℕ} {t m : Store} {x : Left} (l : 0 < n) (first : GathersOver all n f v t m x) where
+    -- these decide
+    pub gather-decided : {r : ℕ} → n ≤ r → decides all (x .shape) ≡ true → GathersOver all r f v t m x
+    gather-decided h z =
+        let sums = sums-over all (λ i. at-value (simplified f) i v) 0 n in
+        let is = decider-is all _ (ap (decides all) (sums .shape ∙ sym (first .parts .takes .shaped)) ∙ z) in
+        record {
+          within = first .within;
+          parts = rw (← together all v f h) (parts-first all _ z (first .parts));
+          settled = over-decided (joins-decided all) h is (first .settled);
         }
 
-  pub gather-quantifier : {all : Bool} {r : ℕ} {t e : Store} {x : Left} {values : Stretch} → kind ≡ Quantifier all
-      → RangeTold body (at + 1) q r → 0 < r → values ≡ stretch-of q all 0 r → t .found ≤ length (t .table) + 1
-      → GathersOver values v body (k + 1) (at + 2) t e x
-      → GathersLeft q v body k at t (back (is-decided (x .shape)) t e) x
-  unfolding simplified
-  gather-quantifier h (a-fifth d) l e few over = absurd (omega arith)
-  gather-quantifier h (no-range d n) l e few over = absurd (omega arith)
-  gather-quantifier {all} {r} {x = x} h (a-range d byte range) l e few over =
-      let g = rw e at over in record {
-        few = few-back (is-decided (x .shape)) few (g .few);
-        size = g .size;
-        walked = record {
-          on = omega (arith, g .walked .on);
-          there = g .walked .there;
-          told = law.formula-quantifier head h d byte range (g .walked .told) (λ f p.
-              taken-back (simplified (quantified all r f) v) (sums-over all (λ i. simplified f (v ++ (i ∷ []))) 0 r)
-              (rw sub-zero at p));
-        };
-      }
+    -- the variable was not looked at: as much is left at every value
+    pub gather-copies : {r : ℕ} → n < r → decides all (x .shape) ≡ false → looks-at (x .looked) (length v) ≡ false
+        → GathersOver all r f v t m (joined-parts all x x)
+    gather-copies {r} h z none =
+        let y = at-one-value f v 0 in
+        let same : _≡_ {A = ℕ → Gist} (at-one-value f v) (λ _. y) =
+        fun-ext λ i. ap gist (one-for-all l none (first .settled) i) in
+        record {
+          within = first .within;
+          parts = rw same (parts-copies all y 0 n r l h z (rw same at (first .parts)));
+          settled = over-first (x .looked) (over-all l none (first .settled));
+        }
 
--- ---- the values of a stretch
--- what is left at one value, and at those from `from` on and below `to`
-abbrev at-value : List ℕ → Formula → ℕ → Gist
-at-value v f i = gist (simplified f (v ++ (i ∷ [])))
-
-abbrev at-values : Bool → List ℕ → Formula → ℕ → ℕ → Gist
-at-values all v f from to = between (joined-gist all) (no-gist all) from to (at-value v f)
-
-halves : (all : Bool) (v : List ℕ) (f : Formula) {from middle to : ℕ} → from ≤ middle → middle ≤ to
-    → joined-gist all (at-values all v f from middle) (at-values all v f middle to) ≡ at-values all v f from to
-halves all v f l h = between-parts (joined-gist all) (no-gist all) (gist-associative all) (gist-unit all) (at-value v f) l h
-
-module _ (stretch : Stretch) (v : List ℕ) {body : List ℕ} {k at : ℕ} where
-  -- the only value
-  pub gather-last : {t e : Store} {x : Left} → stretch .from < stretch .to → stretch .to ≤ stretch .from + 1
-      → GathersLeft (stretch .q + 1) (v ++ (stretch .from ∷ [])) body k at t e x
-      → GathersOver stretch v body k at t e x
-  gather-last l h g =
-      let all = stretch .all in
-      record {
-        few = g .few;
-        size = g .size;
-        walked = told-again (g .walked) (λ f p.
-            rw (between-one (joined-gist all) (no-gist all) (at-value v f) l h
-            ∙ gist-last all (at-value v f (stretch .from)))
-            (part-alone all p));
-      }
-
-  module _ {middle : ℕ} {t m : Store} {x : Left} (l : stretch .from ≤ middle) (h : middle ≤ stretch .to)
-      (first : GathersOver (stretch-of (stretch .q) (stretch .all) (stretch .from) middle) v body k at t m x) where
-    -- the first half decides
-    pub gather-half : decides (stretch .all) (x .shape) ≡ true → GathersOver stretch v body k at t m x
-    gather-half z = record {
-      few = first .few;
-      size = first .size;
-      walked = told-again (first .walked) (λ f p. rw (← halves (stretch .all) v f l h) (parts-first (stretch .all) _ z p));
-    }
-
-    pub gather-halves : {e : Store} {y : Left}
-        → GathersOver (stretch-of (stretch .q) (stretch .all) middle (stretch .to)) v body k at m e y
-        → GathersOver stretch v body k at t e (joined-parts (stretch .all) (x .shape) y)
-    gather-halves second =
-        let b = rw (first .size) at second in record {
-          few = b .few;
-          size = second .size ∙ first .size;
-          walked = record {
-            on = b .walked .on;
-            there = b .walked .there;
-            told = law.formula-map (law.formula-both (b .walked .told) (first .walked .told))
-                (λ f p. rw (← halves (stretch .all) v f l h) (parts-both (stretch .all) (p .1) (p .0)));
-          };
+    -- the next one
+    pub gather-next : {e : Store} {y : Left} → GathersLeft f (v ++ (n ∷ [])) m e y
+        → GathersOver all (n + 1) f v t e (joined-parts all x y)
+    gather-next second =
+        let one = part-alone all (rw (first .within .size) at (second .takes)) in
+        record {
+          within = within-both (first .within) (second .within);
+          parts = rw (← one-more all v f n) (parts-both all (first .parts) one);
+          settled = over-more (first .settled) (second .settled);
         }

@@ -2,7 +2,6 @@ pub mod FoundWordsLaws
 pub mod Noting
 pub mod Adding
 pub mod ShapeLaws
+pub mod Repeats
 pub mod GatheringLaws
 pub mod SideLaws
-pub mod CodeSteps
-pub mod SkipLaws

@@ -71,12 +71,13 @@ module _ (room : ℕ) where
   all-keep s ws h = let begins = add-behind room s ws in rw (begins .is) (stands-on (begins .rest) h)
 
   -- where nothing goes over in the end, nothing went over before
-  fitted : (l : List ℕ) (over : Bool) (ws : List ℕ) → add room (l, over) ws .1 ≡ false → over ≡ false
+  pub fitted : (l : List ℕ) (over : Bool) (ws : List ℕ) → add room (l, over) ws .1 ≡ false → over ≡ false
   fitted l true ws h = absurd (true≢false (rw add-over at h))
   fitted l false ws h = refl
 
   -- the number of a word that is added, in front and in the end
-  numbered : (l : List ℕ) (over : Bool) (w : ℕ) (ws : List ℕ) → over ≡ false → add room (add-one room (l, over) w) ws .1 ≡ false
+  pub numbered : (l : List ℕ) (over : Bool) (w : ℕ) (ws : List ℕ) → over ≡ false
+      → add room (add-one room (l, over) w) ws .1 ≡ false
       → Stands (add room (add-one room (l, over) w) ws .0) w (number-of (l, over) w)
   numbered l true w ws o h = absurd (true≢false o)
   numbered l false w ws o h =

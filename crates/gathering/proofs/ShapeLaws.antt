@@ -4,13 +4,16 @@ use Prim.Native.Nat.{ℕ}
 use mathlib.Core.Path.{_≡_, refl, sym, ap, ap₂, _∙_}
 use mathlib.Core.Bool.{Bool, true, false, true≢false, false≢true, cond, not, _&&_, _||_, Bool·beq}
 use mathlib.Core.List.{List, [], _∷_, _++_, map, map-append, append-assoc, append-nil}
+use mathlib.Core.Logic.{inl, inr}
 use lib.Dec.{eqb, eqb→eq}
 use lib.ListN.{getD}
 use borrow.Author.Tests.{not-true}
 use Rattle.meaning.specs.Simplification.{Tree, leaf, node, Simplified, decided, left, join-simplified}
 use Rattle.meaning.specs.Reach.{leaves, instances}
+use Rattle.meaning.specs.Logic.{cases}
 use Rattle.meaning.specs.Words.{word}
 use Rattle.truth.proofs.Bits.{beq-eq}
+use Rattle.looked.proofs.OverLaws.{Decider}
 use Rattle.instances.specs.Graph.{words-left, plain-tree, plain-as}
 use Rattle.gathering.specs.declared.Shape.{Shape}
 use Rattle.gathering.specs.declared.Shape.the-variants.{Decided, One, Plain, Mixed}
@@ -73,6 +76,10 @@ module _ (all : Bool) where
   associates : Shape → Shape → Shape → Bool
   associates x y z = alike (joined-shape all x (joined-shape all y z)) (joined-shape all (joined-shape all x y) z)
 
+  -- three equal parts, as two
+  as-twice : Shape → Bool
+  as-twice x = alike (joined-shape all x (joined-shape all x x)) (joined-shape all x x)
+
   -- a constant behind a part, as one in front of it
   constant-last : Bool → Shape → Bool
   constant-last c x = alike (joined-shape all x (Decided c)) (joined-constant all c x)
@@ -95,6 +102,11 @@ joined-associative all x y z = same-shape _ _
     (each (associates all x y) (each (λ y. every (associates all x y))
     (each (λ x. every (λ y. every (associates all x y))) (associated all) x) y) z)
 
+pub joined-thrice : (all : Bool) (x : Shape) → joined-shape all x (joined-shape all x x) ≡ joined-shape all x x
+unfolding every as-twice alike number-shape
+joined-thrice true x = same-shape _ _ (each (as-twice true) refl x)
+joined-thrice false x = same-shape _ _ (each (as-twice false) refl x)
+
 pub joined-unit : (all : Bool) (x : Shape) → joined-shape all (Decided all) x ≡ x
 joined-unit true x = refl
 joined-unit false x = refl
@@ -114,14 +126,16 @@ unfolding every
 deciding-parts true = refl
 deciding-parts false = refl
 
+pub decides-either : (all : Bool) (x y : Shape) → decides all (joined-shape all x y) ≡ (decides all x || decides all y)
+decides-either all x y = beq-eq _ _ (each _ (each _ (deciding-parts all) x) y)
+
 neither : (a b : Bool) → (a || b) ≡ false → (a ≡ false) × (b ≡ false)
 neither true b h = absurd (true≢false h)
 neither false b h = (refl, h)
 
 pub none-decides : (all : Bool) (x y : Shape) → decides all (joined-shape all x y) ≡ false
     → (decides all x ≡ false) × (decides all y ≡ false)
-none-decides all x y h =
-    neither (decides all x) (decides all y) (sym (beq-eq _ _ (each _ (each _ (deciding-parts all) x) y)) ∙ h)
+none-decides all x y h = neither (decides all x) (decides all y) (sym (decides-either all x y) ∙ h)
 
 -- a part that decides it is the whole
 pub decider-joined : (all : Bool) (x y : Shape) → decides all x ≡ true → joined-shape all x y ≡ x
@@ -184,6 +198,51 @@ decider-whole true (decided false) y h = refl
 decider-whole false (decided true) y h = refl
 decider-whole false (decided false) y h = absurd (false≢true h)
 decider-whole all (left t) y h = absurd (false≢true (sym (open-decides-none all (tree-shape t) (open-tree t)) ∙ h))
+
+-- the constant that decides a connective, and no other, makes the whole from either side
+module _ (all : Bool) where
+  none-second : (x : Simplified) → join-simplified all x (decided (not all)) ≡ decided (not all)
+  unfolding join-simplified
+  none-second (decided c) = go all c
+    where
+      go : (a c : Bool) → cond (Bool·beq c a) (decided (not a)) (decided c) ≡ decided (not a)
+      go true true = refl
+      go true false = refl
+      go false true = refl
+      go false false = refl
+  none-second (left t) = rw (unlike all) refl
+    where
+      unlike : (a : Bool) → Bool·beq (not a) a ≡ false
+      unlike true = refl
+      unlike false = refl
+
+  pub decider-is : (x : Simplified) → decides all (shape-of x) ≡ true → x ≡ decided (not all)
+  decider-is x h = sym (decider-whole all x (decided (not all)) h) ∙ none-second x
+
+  is-decider : (x : Simplified) → x ≡ decided (not all) → decides all (shape-of x) ≡ true
+  unfolding shape-of
+  is-decider x e = rw e (go all)
+    where
+      go : (a : Bool) → not (Bool·beq (not a) a) ≡ true
+      go true = refl
+      go false = refl
+
+  pub joins-decided : Decider (join-simplified all) (decided all) (decided (not all))
+  unfolding shape-of
+  joins-decided = record {
+    first = λ x. decider-whole all (decided (not all)) x (is-decider (decided (not all)) refl);
+    second = none-second;
+    either = λ x y e. cases (decides all (shape-of x))
+        (λ h. inl (decider-is x h))
+        (λ h. inr (decider-is y (ap (λ (b : Bool). b || decides all (shape-of y)) (sym h)
+        ∙ sym (decides-either all (shape-of x) (shape-of y)) ∙ ap (decides all) (sym (shape-join all x y))
+        ∙ is-decider (join-simplified all x y) e)));
+    other = λ e. go all (is-decider (decided all) e);
+  }
+    where
+      go : (a : Bool) → not (Bool·beq a a) ≡ true → ⊥
+      go true h = false≢true h
+      go false h = false≢true h
 
 -- where no part decides a join, the words of the first and then those of the second are left in it
 pub words-joined : (all : Bool) (x y : Simplified) → decides all (shape-of x) ≡ false → decides all (shape-of y) ≡ false

@@ -4,4 +4,3 @@ pub mod Shapes
 pub mod Gathered
 pub mod Side
 pub mod OneReply
-pub mod Skipped

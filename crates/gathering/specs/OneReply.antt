@@ -13,8 +13,6 @@ use Rattle.meaning.specs.OneReply.{one-reply}
 use Rattle.formulas.specs.declared.Equation.{Equation}
 use Rattle.truth.proofs.Bits.{Eight}
 use Rattle.truth.proofs.OneReply.{one-set}
-use Rattle.words.specs.Unpacked.{equation-number}
-use Rattle.instances.specs.Sides.{OneFormula}
 use Rattle.gathering.specs.declared.Shape.{Shape}
 use Rattle.gathering.specs.declared.Side.{Side}
 use Rattle.gathering.specs.FoundWords.{FoundWords}
@@ -43,17 +41,16 @@ same-number room xs ys {a} {b} p q l m e = go (decLt room a)
         let fits = ltb-false room b (sym (ap (λ (s : FoundWords). s .1) e) ∙ le-ltb room a (omega arith)) in
         omega (arith, filled)
 
--- where the body is one formula; a set is eight words of 64 bits, as its type says
+-- a set is eight words of 64 bits, as its type says
 pub one-gather-side : (bodies : List ℕ) (equations : List Equation) (w : ℕ) (table : List ℕ) (n : ℕ)
-    → OneFormula bodies equations (equation-number w) → {r s : Side} {xs ys : List ℕ}
-    → Eight (r .reads) → Eight (s .reads)
+    {r s : Side} {xs ys : List ℕ} → Eight (r .reads) → Eight (s .reads)
     → SideGathers bodies equations w (length table) table xs n r
     → SideGathers bodies equations w (length table) table ys n s
     → (r ≡ s) × (found-words xs (found-of (length table) (r .found))
     ≡ found-words ys (found-of (length table) (s .found)))
-one-gather-side bodies equations w table n one {r} {s} {xs} {ys} eight eight′ p q =
-    let f = p .told one in
-    let g = q .told one in
+one-gather-side bodies equations w table n {r} {s} {xs} {ys} eight eight′ p q =
+    let f = p .told in
+    let g = q .told in
     let side : ℕ → List ℕ → Shape → Side = λ n l shape. record { found = n; reads = l; shape = shape } in
     let words = one-reply (f .added) (g .added) in
     let same = same-number (length table) xs ys (p .size) (q .size) (p .few) (q .few) words in

@@ -6,8 +6,6 @@ use mathlib.Core.List.{List}
 use lib.ListN.{length}
 use Rattle.formulas.specs.declared.Equation.{Equation}
 use Rattle.truth.specs.Bits.{bit-of, nowhere}
-use Rattle.words.specs.Unpacked.{equation-number}
-use Rattle.instances.specs.Sides.{OneFormula}
 use Rattle.instances.specs.Graph.{left-in}
 use Rattle.gathering.specs.declared.Side.{Side}
 use Rattle.gathering.specs.Filling.{found-of, found-words}
@@ -24,5 +22,4 @@ pub record SideGathers (bodies : List ℕ) (equations : List Equation) (w room :
     (n : ℕ) (r : Side) : Type 0 where
   pub few : r .found ≤ room + 1
   pub size : length exit ≡ length entry
-  pub told : OneFormula bodies equations (equation-number w)
-      → SideTold bodies equations w room entry exit n r
+  pub told : SideTold bodies equations w room entry exit n r

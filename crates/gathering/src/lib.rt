@@ -1,7 +1,6 @@
 // Gathering: the instances that are left in the right side of an instance are added to the words found; the
 // numbers of those that it reads and the way they are joined are told.
 mod shapes;
-mod skipping;
 mod walk;
 
 ghost use Prim.Native.Nat.{_≤_};
@@ -51,10 +50,9 @@ pub fn gather_side(
             shape: Shape::Decided(false),
         };
     }
-    let equation = equations[e];
-    let body = instances::body_of(bodies, w, equation.length);
-    let scope = words::argument_tuple(w, equation.k);
-    let left = gather(body, 0, scope, 0, table, &mut reads, &mut found);
+    let body = instances::body_of(bodies, w);
+    let scope = words::argument_tuple(w, equations[e].k);
+    let left = gather(body, 0, scope, table, &mut reads, &mut found);
     let shape = left.shape;
     Side {
         found,

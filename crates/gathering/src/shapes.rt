@@ -2,31 +2,19 @@
 ghost use mathlib.Core.Path.{_≡_};
 ghost use Rattle.gathering.specs.Shapes.{is-decided, decides, fits, joined-constant, joined-open};
 ghost use Rattle.gathering.specs.Shapes.{joined-left, joined-shape};
-ghost use Rattle.gathering.specs.Gathered.{left-of, value-shape, joined-parts};
+ghost use Rattle.gathering.specs.Gathered.{left-of, joined-parts};
 use crate::Shape;
-use evaluator::Value;
 
-// Where a formula ends, and the shape of what is left of it.
+// The shape of what is left of a formula, and the variables that were looked at to know it.
 pub(crate) struct Left {
-    pub next: usize,
     pub shape: Shape,
+    pub looked: u8,
 }
 
-pub(crate) fn left_of(next: usize, shape: Shape) -> Left
-    ensures { λ r. ⌜ r ≡ left-of next shape ⌝ }
+pub(crate) fn left_of(shape: Shape, looked: u8) -> Left
+    ensures { λ r. ⌜ r ≡ left-of shape looked ⌝ }
 {
-    Left { next, shape }
-}
-
-// The shape of a formula of this value: something is left of it, in some way, where it is open.
-pub(crate) fn value_shape(value: Value) -> Shape
-    ensures { λ r. ⌜ r ≡ value-shape value ⌝ }
-{
-    match value {
-        Value::False => Shape::Decided(false),
-        Value::True => Shape::Decided(true),
-        Value::Open => Shape::Mixed,
-    }
+    Left { shape, looked }
 }
 
 // Whether nothing is left of a formula.
@@ -44,9 +32,10 @@ pub(crate) fn is_decided(left: Left) -> bool
 
 // Whether a part of this shape decides the connective that `all` says by itself: false in an `and`, true in
 // an `or`.
-pub(crate) fn decides(all: bool, shape: Shape) -> bool
-    ensures { λ r. ⌜ r ≡ decides all shape ⌝ }
+pub(crate) fn decides(all: bool, left: Left) -> bool
+    ensures { λ r. ⌜ r ≡ decides all (left .shape) ⌝ }
 {
+    let shape = left.shape;
     match shape {
         Shape::Decided(c) => c != all,
         Shape::One => false,
@@ -109,10 +98,14 @@ fn join_shapes(all: bool, a: Shape, b: Shape) -> Shape
     }
 }
 
-// What is left of two parts together, the first of this shape; they end where the second does.
-pub(crate) fn joined(all: bool, first: Shape, second: Left) -> Left
+// What is left of two parts together.
+pub(crate) fn joined(all: bool, first: Left, second: Left) -> Left
     ensures { λ r. ⌜ r ≡ joined-parts all first second ⌝ }
 {
-    let shape = second.shape;
-    left_of(second.next, join_shapes(all, first, shape))
+    let a = first.shape;
+    let b = second.shape;
+    left_of(
+        join_shapes(all, a, b),
+        looked::both(first.looked, second.looked),
+    )
 }

@@ -1,15 +1,16 @@
 // Gathering: the instances that are left in a formula are added to the words found, their numbers are noted,
 // and the shape of what is left is told. A formula calls on a quantifier's fold, which calls on the formula
 // inside it. A part is walked once: words are added as they are met, and where a join or a quantifier turns
-// out to be decided, what was added inside is taken back.
+// out to be decided, what was added inside is taken back. Each part tells which variables were looked at: a
+// quantifier whose own variable was not leaves the same at all of its values.
 ghost use mathlib.Core.Bool.{cond};
 ghost use mathlib.Core.Path.{_≡_};
 ghost use Prim.Native.Nat.{_+_, _≤_, _<_};
 ghost use lib.ListN.{length};
-ghost use Rattle.evaluator.specs.Folds.{Foldable};
 ghost use Rattle.formulas.specs.Tuples.{items};
-ghost use Rattle.gathering.specs.Gathered.{stretch-of, store, LeftTold, RangeTold};
-ghost use Rattle.gathering.specs.Gathered.{Gatherable, GathersInstance, GathersLeft, GathersOver};
+ghost use Rattle.prepared.specs.Prepared.{formula-there};
+ghost use Rattle.gathering.specs.Gathered.{range-of, store};
+ghost use Rattle.gathering.specs.Gathered.{GathersInstance, GathersLeft, GathersOver};
 ghost use Rattle.gathering.specs.Filling.{Adds};
 ghost use Rattle.gathering.specs.Shapes.{is-decided};
 use crate::Shape;
@@ -18,11 +19,10 @@ use crate::shapes::decides;
 use crate::shapes::is_decided;
 use crate::shapes::joined;
 use crate::shapes::left_of;
-use crate::shapes::value_shape;
-use crate::skipping::skip;
-use evaluator::Stretch;
 use formulas::Kind;
 use formulas::Tuple;
+use prepared::byte_at;
+use prepared::end_at;
 
 // How many words are found after one was added, and its number among them.
 struct Added {
@@ -30,39 +30,16 @@ struct Added {
     at: usize,
 }
 
-// The values of a quantified variable from `from` on and below `to`.
-fn stretch_of(q: u8, all: bool, from: u8, to: u8) -> Stretch
-    ensures { λ r. ⌜ r ≡ stretch-of q all from to ⌝ }
+// The range of the quantifier whose code stands at a place; 0 where the byte is no range, or where there is
+// no place for one more variable.
+fn range_of(body: &[u8], at: usize, scope: Tuple) -> u8
+    requires { ⌜ at < 256 ⌝ }
+    ensures { λ r. ⌜ r ≡ range-of (now (body .entry)) at (scope .count) ⌝ }
 {
-    Stretch { q, all, from, to }
-}
-
-// Whether something is left of the formula at a place, and where it ends: its value says so, which is open
-// where nothing is known of any instance. `none` is any set: an empty table asks nothing of it. It is lent,
-// since what a frame of the recursion holds is what bounds the stack.
-fn left_at(body: &[u8], at: usize, scope: Tuple, q: u8, none: &[u64; 8]) -> Left
-    requires { ⌜ scope .count ≤ 4 + q ⌝ }
-    ensures { λ r. ⌜ LeftTold (now (body .entry)) at scope q r ⌝ }
-{
-    let table = [0u32; 1];
-    let v = evaluator::value_at(body, at, scope, q, &table[..0], none);
-    let value = v.value;
-    if v.ok {
-        left_of(v.next, value_shape(value))
-    } else {
-        left_of(at, Shape::Decided(false))
-    }
-}
-
-// The range that stands at a place, for a quantifier with q around it; 0 where the byte is no range, or where
-// no further quantifier may be.
-fn range_at(body: &[u8], at: usize, q: u8) -> u8
-    ensures { λ r. ⌜ RangeTold (now (body .entry)) at q r ⌝ }
-{
-    if 4 <= q {
+    if 8 <= scope.count {
         return 0;
     }
-    let r = basics::element(body, at);
+    let r = byte_at(body, at + 1);
     if formulas::is_range(r) { r } else { 0 }
 }
 
@@ -96,20 +73,17 @@ fn gather_instance(
     reads: &mut [u64; 8],
     found: &mut usize,
 ) -> Left
-    requires { ⌜ (at < length (now body)) × (now found ≤ length (now table) + 1) ⌝ }
-    ensures { λ r. ⌜ GathersInstance (now (body .entry)) at scope
+    requires { ⌜ now found ≤ length (now table) + 1 ⌝ }
+    ensures { λ r. ⌜ GathersInstance (now (body .entry)) at (items scope)
         (store (now (table .entry)) (now (found .entry)) (now (reads .entry)))
         (store (now (table .exit)) (now (found .exit)) (now (reads .exit))) r ⌝ }
 {
-    let i = evaluator::word_at(body, at + 1, scope);
-    if !i.ok {
-        return left_of(at, Shape::Decided(false));
-    }
+    let i = evaluator::word_at(body, at, scope);
     let n = *found;
     let a = add_word(table, n, i.word);
     *found = a.found;
     truth::mark(reads, a.at);
-    left_of(i.next, Shape::One)
+    left_of(Shape::One, i.looked)
 }
 
 // Takes back what was added inside a join or a quantifier, where nothing is left of it: the words found are
@@ -126,53 +100,53 @@ fn take_back(left: Left, n: usize, set: &[u64; 8], reads: &mut [u64; 8], found: 
 }
 
 // Adds the instances that are left in the formula at a place to the words found and their numbers to the set
-// of those read, and tells its shape and the place after it.
+// of those read, and tells its shape. The second part of a join is passed over where the first decides.
 pub(crate) fn gather(
     body: &[u8],
     at: usize,
     scope: Tuple,
-    q: u8,
     table: &mut [u32],
     reads: &mut [u64; 8],
     found: &mut usize,
 ) -> Left
-    requires { ⌜ Gatherable scope q (now table) (now found) ⌝ }
-    ensures { λ r. ⌜ GathersLeft q (items scope) (now (body .entry)) (scope .count) at
+    requires { ⌜ now found ≤ length (now table) + 1 ⌝ }
+    ensures { λ r. ⌜ GathersLeft (formula-there (now (body .entry)) (scope .count) at) (items scope)
         (store (now (table .entry)) (now (found .entry)) (now (reads .entry)))
         (store (now (table .exit)) (now (found .exit)) (now (reads .exit))) r ⌝ }
 {
-    if body.len() <= at {
-        return left_of(at, Shape::Decided(false));
+    if 256 <= at {
+        return left_of(Shape::Decided(false), 0);
     }
     // What to go back to, in one place for a small frame.
     let n = *found;
     let set = *reads;
-    let kind = formulas::kind_of(basics::element(body, at));
+    let kind = formulas::kind_of(byte_at(body, at));
     match kind {
-        Kind::NoFormula => left_of(at, Shape::Decided(false)),
-        Kind::Constant(b) => left_of(at + 1, Shape::Decided(b)),
+        Kind::NoFormula => left_of(Shape::Decided(false), 0),
+        Kind::Constant(b) => left_of(Shape::Decided(b), 0),
         // A test is never open: its value says all.
-        Kind::Compare(_) => left_at(body, at, scope, q, reads),
+        Kind::Compare(t) => {
+            let a = evaluator::test_at(body, at, scope, t);
+            left_of(Shape::Decided(a.holds), a.looked)
+        }
         Kind::Join(all) => {
-            // In one place too: the first part, then the second, then both.
-            let mut part = gather(body, at + 1, scope, q, table, reads, found);
-            let first = part.shape;
+            let first = gather(body, at + 1, scope, table, reads, found);
+            // A first part that decides took back what it added.
             if decides(all, first) {
-                // The first part took back what it added.
-                return left_of(skip(body, part.next), first);
+                return first;
             }
-            part = gather(body, part.next, scope, q, table, reads, found);
+            // In one place too: the second part, then both.
+            let mut part = gather(body, end_at(body, at + 1), scope, table, reads, found);
             part = joined(all, first, part);
             take_back(part, n, &set, reads, found);
             part
         }
         Kind::Quantifier(all) => {
-            let to = range_at(body, at + 1, q);
-            if to == 0 {
-                return left_of(at, Shape::Decided(false));
+            let r = range_of(body, at, scope);
+            if r == 0 {
+                return left_of(Shape::Decided(false), 0);
             }
-            let values = stretch_of(q, all, 0, to);
-            let part = gather_fold(body, at + 2, scope, values, table, reads, found);
+            let part = gather_fold(body, at + 2, scope, all, r, table, reads, found);
             take_back(part, n, &set, reads, found);
             part
         }
@@ -180,39 +154,36 @@ pub(crate) fn gather(
     }
 }
 
-// The same for a formula at the values of a stretch of a quantified variable, by halves. Where the first half
-// decides, the second is left out; what was added is not taken back here.
+// The same for a formula at the values below r of a quantified variable, from 0 up. The others are left out
+// where those before them decide; where the variable was not looked at for these, as much is left at every
+// other one. What was added is not taken back here.
 fn gather_fold(
     body: &[u8],
     at: usize,
     scope: Tuple,
-    stretch: Stretch,
+    all: bool,
+    r: u8,
     table: &mut [u32],
     reads: &mut [u64; 8],
     found: &mut usize,
 ) -> Left
-    requires { ⌜ Gatherable scope (stretch .q) (now table) (now found) × Foldable scope stretch ⌝ }
-    ensures { λ r. ⌜ GathersOver stretch (items scope) (now (body .entry)) (scope .count + 1) at
-        (store (now (table .entry)) (now (found .entry)) (now (reads .entry)))
-        (store (now (table .exit)) (now (found .exit)) (now (reads .exit))) r ⌝ }
+    requires { ⌜ (now found ≤ length (now table) + 1) × (0 < r) × (scope .count < 8) ⌝ }
+    ensures { λ x. ⌜ GathersOver all r (formula-there (now (body .entry)) (scope .count + 1) at)
+        (items scope) (store (now (table .entry)) (now (found .entry)) (now (reads .entry)))
+        (store (now (table .exit)) (now (found .exit)) (now (reads .exit))) x ⌝ }
 {
-    let q = stretch.q;
-    let all = stretch.all;
-    let from = stretch.from;
-    let to = stretch.to;
-    let half = (to - from) / 2;
-    if half == 0 {
-        let inner = formulas::push(scope, from);
-        return gather(body, at, inner, q + 1, table, reads, found);
+    let mut a = gather(body, at, formulas::push(scope, 0), table, reads, found);
+    let mut i: u8 = 1;
+    while i < r {
+        if decides(all, a) {
+            return a;
+        }
+        if !looked::looks_at(a.looked, scope.count) {
+            return joined(all, a, a);
+        }
+        let b = gather(body, at, formulas::push(scope, i), table, reads, found);
+        a = joined(all, a, b);
+        i += 1;
     }
-    let middle = from + half;
-    let first = stretch_of(q, all, from, middle);
-    let mut part = gather_fold(body, at, scope, first, table, reads, found);
-    let shape = part.shape;
-    if decides(all, shape) {
-        return part;
-    }
-    let second = stretch_of(q, all, middle, to);
-    part = gather_fold(body, at, scope, second, table, reads, found);
-    joined(all, shape, part)
+    a
 }

@@ -2,23 +2,22 @@
 -- A part that would end past the list ends with it; a word that names no equation has no body.
 use mathlib.Core.Path.{_≡_, refl, sym, _∙_, ap}
 use mathlib.Core.List.{List}
-use Prim.Native.Nat.{ℕ, _+_, _-_, _≤_, min}
+use Prim.Native.Nat.{ℕ, _+_, _-_, _≤_, _<_, min}
 use native.Mathlib.Omega.{arith}
-use lib.ListN.{length, take, drop, length-drop, drop-of-length-le, List·getD-eq-default}
+use lib.ListN.{length, take, drop, length-drop, drop-of-length-le}
 use lib.Seq.{drop-length}
-use borrow.Author.Tests.{le-leb}
+use borrow.Author.Tests.{lt-ltb, le-ltb}
 use Rattle.formulas.specs.declared.Equation.{Equation}
 use Rattle.formulas.specs.declared.Tuple.{Tuple}
-use Rattle.formulas.specs.Bodies.{blank}
-use Rattle.formulas.specs.Decode.{formula-at}
+use Rattle.formulas.specs.Tuples.{items}
 use Rattle.truth.specs.Bits.{bit-of}
 use Rattle.words.specs.Unpacked.{equation-number, argument-tuple, argument-count, argument-items, at-smaller, take-within}
 use Rattle.evaluator.specs.declared.Value.{Value}
 use Rattle.evaluator.specs.declared.Value.the-variants.{False}
 use Rattle.evaluator.specs.Values.{valued, value-in}
-use Rattle.evaluator.specs.Replies.{body-value}
-use Rattle.instances.specs.Decoded.{equation-at, body-part, body-in}
-use Rattle.instances.specs.Sides.{parsed-in, side-of}
+use Rattle.prepared.specs.Decoded.{equation-at}
+use Rattle.prepared.specs.Prepared.{prepared-part, formula-there}
+use Rattle.instances.specs.Sides.{formula-in, side-of}
 
 -- the part from `first` on, of as many bytes as are asked for or as are left
 pub part-cut : (l : List ℕ) (place n : ℕ) {first more : ℕ} → first ≡ min place (length l) → more ≡ min n (length l - first)
@@ -29,19 +28,17 @@ part-cut l place n {first} {more} f m =
     rw size (take-within n (drop first l) ∙ rw f (ap (take n) dropped))
 
 module _ (bodies : List ℕ) (equations : List Equation) (table truth : List ℕ) (w : ℕ) {e : ℕ} (is : e ≡ equation-number w) where
-  -- there are eight equations: past them nothing is read
-  pub side-past : length equations ≡ 8 → 8 ≤ e → False ≡ side-of bodies equations table (bit-of truth) w
-  unfolding side-of parsed-in body-in formula-at valued
-  side-past eight h =
-      let none : equation-at equations (equation-number w) ≡ blank = List·getD-eq-default equations blank (omega arith) in
-      rw none refl
+  -- there are eight equations: past them the formula is false
+  pub side-past : 8 ≤ e → False ≡ side-of bodies equations table (bit-of truth) w
+  unfolding side-of formula-in valued
+  side-past h = rw (le-ltb (equation-number w) 8 (omega arith)) refl
 
   -- what the evaluator gives for a word's body and arguments is its right side
-  pub side-given : {body : List ℕ} {scope : Tuple} {r : Value}
-      → body ≡ body-part bodies (equation-number w) (equation-at equations e .length)
-      → scope ≡ argument-tuple w (equation-at equations e .k) → r ≡ body-value (value-in table (bit-of truth)) body scope
+  pub side-given : {body : List ℕ} {scope : Tuple} {r : Value} → e < 8 → body ≡ prepared-part bodies (equation-number w)
+      → scope ≡ argument-tuple w (equation-at equations e .k)
+      → r ≡ valued (formula-there body (scope .count) 0) (value-in table (bit-of truth)) (items scope)
       → r ≡ side-of bodies equations table (bit-of truth) w
-  unfolding side-of parsed-in body-in value-in body-value
-  side-given b s h =
+  unfolding side-of formula-in
+  side-given l b s h =
       let k = equation-at equations (equation-number w) .k in
-      h ∙ rw (b, s, is, argument-items w k, argument-count w k, le-leb (min k 4) 4 (omega arith)) refl
+      h ∙ rw (b, s, is, argument-items w k, argument-count w k, lt-ltb (equation-number w) 8 (omega arith)) refl

@@ -1,4 +1,4 @@
--- What stands at number e of the model of decoded bodies, and which instance a word names in it.
+-- What stands at number e of the model of prepared bodies, and which instance a word names in a model.
 -- The model is made equation by equation; of a well-formed one the word of an instance says its equation and its arguments.
 use Prim.Native.Nat.{ℕ, zero, suc, _+_, _<_, _≤_}
 use native.Mathlib.Omega.{arith}
@@ -9,7 +9,7 @@ use lib.ListN.{length, getD, List·getD-map}
 use Rattle.meaning.specs.Logic.{Is}
 use Rattle.meaning.specs.Formulas.{constant}
 use Rattle.meaning.specs.Models.{ModelEquation, Model}
-use Rattle.meaning.specs.Ranges.{signatures, typed}
+use Rattle.meaning.specs.Ranges.{signatures, typed, well-formed}
 use Rattle.meaning.specs.Reach.{Instance, body-of}
 use Rattle.meaning.specs.Typed.{typed-equation, well-formed-count, signatures-length, ranges-count}
 use Rattle.meaning.specs.Words.{word}
@@ -17,7 +17,7 @@ use Rattle.meaning.specs.WordLaws.{typed-length, word-equation, word-arguments}
 use Rattle.formulas.specs.declared.Equation.{Equation}
 use Rattle.formulas.specs.Bodies.{ranges-of}
 use Rattle.words.specs.Unpacked.{equation-number}
-use Rattle.instances.specs.Decoded.{equation-at}
+use Rattle.prepared.specs.Decoded.{equation-at}
 use Rattle.instances.specs.Sides.{formula-in, arguments-in}
 use Rattle.instances.specs.Models.{equation-in, model-from, model-in, WellFormedModel}
 
@@ -63,37 +63,56 @@ module _ (bodies : List ℕ) (equations : List Equation) where
         List·getD-map (λ m. m .ranges) model e no-equation ∙ ap (λ (m : ModelEquation). m .ranges) equation-there
 
 -- ---- the word of an instance names it
-module _ {bodies : List ℕ} {equations : List Equation} {count : ℕ} {start : Instance}
-    (m : WellFormedModel bodies equations count start) where
-  abbrev typed-model : Model
-  typed-model = model-in bodies equations count
+-- the records have the ranges of the equations of a well-formed model
+pub record Named (model : Model) (equations : List Equation) (start : Instance) : Type 0 where
+  pub well : Is (well-formed model start)
+  pub ranges : (e : ℕ) → e < length model → getD (signatures model) e [] ≡ ranges-of (equation-at equations e)
+  pub wide : (e : ℕ) → e < length model → length (ranges-of (equation-at equations e)) ≡ equation-at equations e .k
 
+module _ {model : Model} {equations : List Equation} {start : Instance} (m : Named model equations start) where
   abbrev pub Typed : Instance → Type 0
-  Typed i = Is (typed (signatures typed-model) i)
-
-  pub few-equations : count ≤ 8
-  few-equations = omega (arith, well-formed-count typed-model start (m .well), model-length bodies equations count 0)
+  Typed i = Is (typed (signatures model) i)
 
   module _ (e : ℕ) (x : List ℕ) (t : Typed (e ∷ x)) where
-    there-is : e < length (signatures typed-model)
-    there-is = typed-equation (signatures typed-model) e x t
+    there-is : e < length (signatures model)
+    there-is = typed-equation (signatures model) e x t
 
-    pub typed-below : e < count
-    typed-below = omega (arith, there-is, signatures-length typed-model, model-length bodies equations count 0)
+    pub typed-inside : e < length model
+    typed-inside = omega (arith, there-is, signatures-length model)
 
     pub word-number : equation-number (word (e ∷ x)) ≡ e
-    word-number = word-equation typed-model start (m .well) e x t
+    word-number = word-equation model start (m .well) e x t
 
     parameters : equation-at equations e .k ≡ length x
-    parameters = sym (m .wide e typed-below) ∙ ap length (sym (signature-there bodies equations count e typed-below))
-        ∙ sym (typed-length typed-model start (m .well) e x t)
+    parameters = sym (m .wide e typed-inside) ∙ ap length (sym (m .ranges e typed-inside))
+        ∙ sym (typed-length model start (m .well) e x t)
 
     pub word-names : arguments-in equations (word (e ∷ x)) ≡ x
-    word-names = rw (word-number, parameters) (word-arguments typed-model start (m .well) e x t)
+    word-names = rw (word-number, parameters) (word-arguments model start (m .well) e x t)
 
     -- its equation is one of eight, with at most four parameters
     pub word-readable : (equation-number (word (e ∷ x)) < 8) × (equation-at equations (equation-number (word (e ∷ x))) .k ≤ 4)
     word-readable =
-        let arguments = typed-length typed-model start (m .well) e x t in
-        let few = ranges-count typed-model start (m .well) e there-is in
-        rw word-number (omega (arith, typed-below, few-equations), omega (arith, parameters))
+        let arguments = typed-length model start (m .well) e x t in
+        let few = ranges-count model start (m .well) e there-is in
+        let equations-few = well-formed-count model start (m .well) in
+        rw word-number (omega (arith, typed-inside, equations-few), omega (arith, parameters))
+
+-- ---- so it is of the model of prepared bodies
+module _ {bodies : List ℕ} {equations : List Equation} {count : ℕ} {start : Instance}
+    (m : WellFormedModel bodies equations count start) where
+  abbrev size : length (model-in bodies equations count) ≡ count
+  size = model-length bodies equations count 0
+
+  pub named : Named (model-in bodies equations count) equations start
+  named = record {
+    well = m .well;
+    ranges = λ e h. signature-there bodies equations count e (omega (arith, size));
+    wide = λ e h. m .wide e (omega (arith, size));
+  }
+
+  pub few-equations : count ≤ 8
+  few-equations = omega (arith, well-formed-count (model-in bodies equations count) start (m .well), size)
+
+  pub typed-below : (e : ℕ) (x : List ℕ) → Typed named (e ∷ x) → e < count
+  typed-below e x t = omega (arith, typed-inside named e x t, size)

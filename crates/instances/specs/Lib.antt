@@ -1,4 +1,3 @@
-pub mod Decoded
 pub mod Sides
 pub mod Models
 pub mod Graph

@@ -1,5 +1,5 @@
--- DEFINITIONS: the model of decoded bodies.
--- It is a function of the decoded bodies and of the equations' records.
+-- DEFINITIONS: the model of prepared bodies.
+-- It is a function of the prepared bodies and of the equations' records.
 use Prim.Native.Nat.{ℕ, zero, suc, _<_}
 use mathlib.Core.Path.{_≡_}
 use mathlib.Core.List.{List, [], _∷_}
@@ -10,8 +10,8 @@ use Rattle.meaning.specs.Ranges.{well-formed}
 use Rattle.meaning.specs.Reach.{Instance}
 use Rattle.formulas.specs.declared.Equation.{Equation}
 use Rattle.formulas.specs.Bodies.{ranges-of}
-use Rattle.instances.specs.Decoded.{equation-at}
-use Rattle.instances.specs.Sides.{formula-in, OneFormula, is-greatest}
+use Rattle.prepared.specs.Decoded.{equation-at}
+use Rattle.instances.specs.Sides.{formula-in, is-greatest}
 
 abbrev pub equation-in : List ℕ → List Equation → ℕ → ModelEquation
 equation-in bodies equations e = record {
@@ -30,11 +30,9 @@ model-from bodies equations e (suc n) =
 abbrev pub model-in : List ℕ → List Equation → ℕ → Model
 model-in bodies equations count = model-from bodies equations 0 count
 
--- it is well-formed with this start, each equation has as many ranges as parameters, and each body is a
--- formula
+-- it is well-formed with this start, and each equation has as many ranges as parameters
 pub record WellFormedModel (bodies : List ℕ) (equations : List Equation) (count : ℕ) (start : Instance)
     : Type 0 where
   pub well : Is (well-formed (model-in bodies equations count) start)
   pub wide : (e : ℕ) → e < count
       → length (ranges-of (equation-at equations e)) ≡ equation-at equations e .k
-  pub formulas : (e : ℕ) → e < count → OneFormula bodies equations e

@@ -9,12 +9,12 @@ use Rattle.formulas.specs.declared.Equation.{Equation}
 use Rattle.truth.specs.Bits.{bit-of}
 use Rattle.words.specs.Unpacked.{equation-number}
 use Rattle.evaluator.specs.declared.Value.{Value}
-use Rattle.instances.specs.Decoded.{body-part}
+use Rattle.prepared.specs.Prepared.{prepared-part}
 use Rattle.instances.specs.Sides.{is-true, side-of}
 
-pub one-body-of : (bodies : List ℕ) (w n : ℕ) {r s : List ℕ}
-    → r ≡ body-part bodies (equation-number w) n → s ≡ body-part bodies (equation-number w) n → r ≡ s
-one-body-of bodies w n = one-reply
+pub one-body-of : (bodies : List ℕ) (w : ℕ) {r s : List ℕ}
+    → r ≡ prepared-part bodies (equation-number w) → s ≡ prepared-part bodies (equation-number w) → r ≡ s
+one-body-of bodies w = one-reply
 
 pub one-is-true : (value : Value) {r s : Bool} → r ≡ is-true value → s ≡ is-true value → r ≡ s
 one-is-true value = one-reply

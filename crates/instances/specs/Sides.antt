@@ -1,37 +1,27 @@
 -- DEFINITIONS: the right sides of a table of words, and its instances as a numbered system.
 -- A right side is the value of the equation's formula: an instance is as true as its number in the set says.
 use Prim.Native.Nat.{ℕ, min}
-use mathlib.Core.Path.{_≡_}
-use mathlib.Core.Bool.{Bool, true, false, _&&_}
+use mathlib.Core.Bool.{Bool, true, false, cond, _&&_}
 use mathlib.Core.List.{List}
 use lib.Dec.{eqb, ltb}
 use lib.ListN.{length, getD}
-use Rattle.meaning.specs.Formulas.{Formula}
+use Rattle.meaning.specs.Formulas.{Formula, constant}
 use Rattle.meaning.specs.WordLaws.{arguments-of}
 use Rattle.formulas.specs.declared.Equation.{Equation}
-use Rattle.formulas.specs.Decode.{Parsed, some, formula-at}
-use Rattle.formulas.specs.Bodies.{found}
 use Rattle.words.specs.Unpacked.{equation-number}
 use Rattle.evaluator.specs.declared.Value.{Value}
 use Rattle.evaluator.specs.declared.Value.the-variants.{False, True, Open}
 use Rattle.evaluator.specs.Values.{valued, value-in}
-use Rattle.instances.specs.Decoded.{equation-at, body-in}
+use Rattle.prepared.specs.Decoded.{equation-at}
+use Rattle.prepared.specs.Prepared.{prepared-part, formula-there}
 use Rattle.systems.specs.Numbered.{Truths, Numbered}
 
--- what is read in the decoded body of equation e; "parameter count k (0 to 4)", so no more are in reach
-unfoldable pub parsed-in : List ℕ → List Equation → ℕ → Parsed Formula
-parsed-in bodies equations e =
-    formula-at (length (body-in bodies equations e)) (body-in bodies equations e)
-    (min (equation-at equations e .k) 4) 0 0
-
--- the formula of equation e; false where none is read
-abbrev pub formula-in : List ℕ → List Equation → ℕ → Formula
-formula-in bodies equations e = found (parsed-in bodies equations e)
-
--- the decoded body of equation e is one formula
-pub record OneFormula (bodies : List ℕ) (equations : List Equation) (e : ℕ) : Type 0 where
-  pub reads : parsed-in bodies equations e
-      ≡ some (formula-in bodies equations e) (length (body-in bodies equations e))
+-- the formula of equation e, in prepared bodies; "at most 8" equations, "parameter count k (0 to 4)", so no
+-- more are in reach
+unfoldable pub formula-in : List ℕ → List Equation → ℕ → Formula
+formula-in bodies equations e =
+    cond (ltb e 8) (formula-there (prepared-part bodies e) (min (equation-at equations e .k) 4) 0)
+    (constant false)
 
 -- the arguments of the instance with the word w
 abbrev pub arguments-in : List Equation → ℕ → List ℕ

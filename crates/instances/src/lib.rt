@@ -1,19 +1,19 @@
-// The numbered system of a model's instances: the bodies of its equations, what a word names among them, and
-// the right side of a word's instance in a set of instances.
+// The numbered system of a model's instances: the prepared bodies of its equations, what a word names among
+// them, and the right side of a word's instance in a set of instances.
 ghost use mathlib.Core.Path.{_≡_};
 ghost use Rattle.truth.specs.Bits.{bit-of};
 ghost use Rattle.words.specs.Unpacked.{equation-number};
-ghost use Rattle.instances.specs.Decoded.{body-part};
+ghost use Rattle.prepared.specs.Prepared.{prepared-part};
 ghost use Rattle.instances.specs.Sides.{is-true, side-of};
 use evaluator::Value;
 use formulas::Equation;
 
-// The decoded body of the equation that a word names: the first `length` bytes from its place on.
-pub fn body_of(bodies: &[u8], w: u32, length: usize) -> &[u8]
-    ensures { λ r. ⌜ now r ≡ body-part (now (bodies .entry)) (equation-number w) length ⌝ }
+// The prepared body of the equation that a word names.
+pub fn body_of(bodies: &[u8], w: u32) -> &[u8]
+    ensures { λ r. ⌜ now r ≡ prepared-part (now (bodies .entry)) (equation-number w) ⌝ }
 {
-    let first = basics::smaller(words::equation_number(w) * 256, bodies.len());
-    let end = first + basics::smaller(length, bodies.len() - first);
+    let first = basics::smaller(words::equation_number(w) * 512, bodies.len());
+    let end = first + basics::smaller(512, bodies.len() - first);
     &bodies[first..end]
 }
 
@@ -43,7 +43,6 @@ pub fn right_side(
     if 8 <= e {
         return Value::False;
     }
-    let equation = equations[e];
-    let body = body_of(bodies, w, equation.length);
-    evaluator::evaluate(body, words::argument_tuple(w, equation.k), table, truth)
+    let scope = words::argument_tuple(w, equations[e].k);
+    evaluator::evaluate(body_of(bodies, w), scope, table, truth)
 }

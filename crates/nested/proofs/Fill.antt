@@ -13,7 +13,7 @@ use Rattle.formulas.specs.declared.Equation.{Equation}
 use Rattle.truth.specs.Bits.{bit-of, put-in}
 use Rattle.truth.proofs.Bits.{updated-is}
 use Rattle.words.specs.Unpacked.{equation-number}
-use Rattle.instances.specs.Decoded.{equation-at}
+use Rattle.prepared.specs.Decoded.{equation-at}
 use Rattle.systems.specs.Numbered.{Truths}
 use Rattle.instances.specs.Sides.{among-first, names, is-greatest}
 use Rattle.systems.specs.Solved.{filled}

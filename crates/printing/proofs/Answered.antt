@@ -24,7 +24,6 @@ use Rattle.frames.specs.PutLine.{Puts}
 use Rattle.frames.specs.Written.{line-length}
 use Rattle.engine.specs.declared.Examined.{Examined}
 use Rattle.engine.specs.Examined.{Examines}
-use Rattle.engine.proofs.ReadModel.{model-is}
 use Rattle.printing.specs.Promise.{Written}
 use Rattle.printing.specs.Lines.{reached-lines, answer-text, Printable}
 use Rattle.printing.proofs.Reached.{AllTyped, readable, lines-back}
@@ -56,7 +55,7 @@ module _ {t blank words : List ℕ} {e : Examined} (x : Examines t blank e words
         (take-append-seam (map word (list t)) _)
 
     all-typed : AllTyped t read (list t)
-    all-typed i m = rw (model-is t read) (listed-in-range t read i m)
+    all-typed i m = listed-in-range t read i m
 
     instances-printed : reached-lines words e ≡ instance-lines (the-model t) (list t)
     unfolding shown-values

@@ -20,9 +20,8 @@ use Rattle.truth.specs.Bits.{bit-of}
 use Rattle.answers.specs.Answers.{the-model, the-start, truth-in}
 use Rattle.frames.specs.Frames.{line-of}
 use Rattle.answers.specs.Printed.{instance-frame, instance-lines}
-use Rattle.instances.specs.Models.{WellFormedModel}
-use Rattle.instances.proofs.Models.{Typed, word-number, word-names, word-readable}
-use Rattle.engine.proofs.ReadModel.{well-formed-model}
+use Rattle.instances.proofs.Models.{Named, Typed, word-number, word-names, word-readable}
+use Rattle.engine.proofs.ReadModel.{text-named}
 use Rattle.printing.specs.Lines.{parameters-of, word-frame, word-lines, Readable}
 
 -- ---- a text that was read: its instances and their words
@@ -30,8 +29,8 @@ module _ (t : List ℕ) (read : text-refusal t .number ≡ 0) where
   abbrev pub equations : List Equation
   equations = reading t .model .equations
 
-  abbrev held : WellFormedModel (reading t .bodies) equations (reading t .model .count) (the-start t)
-  held = well-formed-model t read
+  abbrev held : Named (the-model t) equations (the-start t)
+  held = text-named t read
 
   abbrev pub AllTyped : List Instance → Type 0
   AllTyped is = (i : Instance) → Is (mem i is) → Typed held i

@@ -36,7 +36,7 @@ use Rattle.answers.specs.Answers.{truth-in}
 use Rattle.systems.specs.Numbered.{Truths, Numbered}
 use Rattle.instances.specs.Sides.{side-of, is-true, sides, among-first, names, numbered-system}
 use Rattle.instances.specs.Models.{model-from, model-in, WellFormedModel}
-use Rattle.instances.proofs.Models.{model-length, body-there, Typed, typed-below, word-number, word-names}
+use Rattle.instances.proofs.Models.{model-length, body-there, Typed, named, typed-below, word-number, word-names}
 use Rattle.systems.specs.Solved.{solved}
 use Rattle.systems.specs.Nested as outside
 use Rattle.solving.proofs.Agreement.{Agrees, inside, mem-at, listed, Divided, Right, Follows, solved-agrees}
@@ -93,10 +93,10 @@ module _ {bodies : List ℕ} {equations : List Equation} {count : ℕ} {start : 
   abbrev S : Numbered
   S = numbered-system bodies equations table
 
-  all-typed : (i : Instance) → Is (mem i l) → Typed m i
+  all-typed : (i : Instance) → Is (mem i l) → Typed (named m) i
   all-typed = reached-typed model start (m .well)
 
-  instance-typed : (j e : ℕ) (x : Args) → getD l j [] ≡ e ∷ x → Typed m (e ∷ x)
+  instance-typed : (j e : ℕ) (x : Args) → getD l j [] ≡ e ∷ x → Typed (named m) (e ∷ x)
   instance-typed j e x q = all-typed (e ∷ x) (listed l j e x q)
 
   word-is : (j e : ℕ) (x : Args) → getD l j [] ≡ e ∷ x → getD table j 0 ≡ word (e ∷ x)
@@ -104,7 +104,7 @@ module _ {bodies : List ℕ} {equations : List Equation} {count : ℕ} {start : 
 
   -- its equation
   number-is : (j e : ℕ) (x : Args) → getD l j [] ≡ e ∷ x → equation-number (getD table j 0) ≡ e
-  number-is j e x q = ap equation-number (word-is j e x q) ∙ word-number m e x (instance-typed j e x q)
+  number-is j e x q = ap equation-number (word-is j e x q) ∙ word-number (named m) e x (instance-typed j e x q)
 
   divided : Divided l S
   unfolding numbered-system among-first names
@@ -126,7 +126,7 @@ module _ {bodies : List ℕ} {equations : List Equation} {count : ℕ} {start : 
   side-is v j e x q =
       let t = instance-typed j e x q in
       let there = body-there bodies equations count e (typed-below m e x t) in
-      rw (word-is j e x q, word-names m e x t, word-number m e x t, there) refl
+      rw (word-is j e x q, word-names (named m) e x t, word-number (named m) e x t, there) refl
 
   -- the right side of a reached instance
   right : (e : ℕ) → Right l S e (holds (body-of model e))
@@ -171,7 +171,7 @@ module _ {bodies : List ℕ} {equations : List Equation} {count : ℕ} {start : 
     | no h ↦ solved-past j (omega arith) ∙ sym (ap (truth-in model) (List·getD-eq-default l [] {n = j} (omega arith)))
   ]
     where
-      go : (i : Instance) → getD l j [] ≡ i → Typed m i → solved S count 0 sets.nowhere j ≡ truth-in model i
+      go : (i : Instance) → getD l j [] ≡ i → Typed (named m) i → solved S count 0 sets.nowhere j ≡ truth-in model i
       go [] q t = never t
       go (e ∷ x) q t = solved-meaning j e x q
 

@@ -1,5 +1,5 @@
 mod Flips
-mod Digits
+pub mod Digits
 mod RowWords
 pub mod Bits
 pub mod Words

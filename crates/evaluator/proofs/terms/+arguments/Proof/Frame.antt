@@ -9,6 +9,8 @@ use Rattle.evaluator.proofs.terms.arguments.Kinds as of-arguments
 use Rattle.evaluator.proofs.terms.arguments.Reads as arguments-reads
 use Rattle.evaluator.proofs.terms.term.Reads as term-reads
 use Rattle.formulas.proofs.push.Reads as push-reads
+use Rattle.looked.proofs.both.Reads as both-reads
+use Rattle.prepared.proofs.end_at.Reads as end-at-reads
 
 -- how many terms are left
 abbrev pub μ-arguments : Measures 1 of-arguments.ps ℕ
@@ -30,6 +32,10 @@ module _ (t : ℕ) where
     term-reads.Learnt,
     push-reads.Asked,
     push-reads.Learnt,
+    both-reads.Asked,
+    both-reads.Learnt,
+    end-at-reads.Asked,
+    end-at-reads.Learnt,
     arguments-below,
     arguments-post,
   )

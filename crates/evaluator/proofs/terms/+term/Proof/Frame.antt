@@ -2,23 +2,24 @@
 -- The measure, the contract at and below a measure, and what the function knows of those it calls.
 use Prim.Native.Nat.{ℕ, _-_, _<_}
 use mathlib.Core.Path.{_≡_}
-use lib.ListN.{length}
 use borrow.Fn.Kinds.{In, Out}
 use borrow.Fn.PlainCycle.{Measures}
 use Rattle.evaluator.proofs.terms.+term.Lts-term as term
 use Rattle.evaluator.proofs.terms.term.Kinds as of-term
 use Rattle.evaluator.proofs.terms.term.Reads as term-reads
-use Rattle.basics.proofs.element.Reads as element-reads
-use Rattle.basics.proofs.wide.Reads as wide-reads
 use Rattle.evaluator.proofs.terms.calculate.Reads as calculate-reads
-use Rattle.evaluator.proofs.terms.no_term.Reads as no-term-reads
-use Rattle.formulas.proofs.is_range.Reads as is-range-reads
+use Rattle.evaluator.proofs.terms.term_value.Reads as term-value-reads
 use Rattle.formulas.proofs.term_kind_of.Reads as term-kind-of-reads
+use Rattle.formulas.proofs.is_range.Reads as is-range-reads
 use Rattle.formulas.proofs.item.Reads as item-reads
+use Rattle.looked.proofs.both.Reads as both-reads
+use Rattle.looked.proofs.only.Reads as only-reads
+use Rattle.prepared.proofs.byte_at.Reads as byte-at-reads
+use Rattle.prepared.proofs.end_at.Reads as end-at-reads
 
--- what is left of the body
+-- how many places are left
 abbrev pub μ-term : Measures 1 of-term.ps ℕ
-μ-term κs a = length (a .0 .now) - a .1 .0
+μ-term κs a = 256 - a .1 .0
 
 abbrev pub term-post : Out 1 of-term.ps of-term.r
 term-post = term-reads.Post
@@ -32,20 +33,24 @@ module _ (t : ℕ) where
 
   abbrev pub term-calls : term.Claims
   term-calls = (
-    no-term-reads.Asked,
-    no-term-reads.Learnt,
-    element-reads.Asked,
-    element-reads.Learnt,
+    term-value-reads.Asked,
+    term-value-reads.Learnt,
+    byte-at-reads.Asked,
+    byte-at-reads.Learnt,
     term-kind-of-reads.Asked,
     term-kind-of-reads.Learnt,
-    wide-reads.Asked,
-    wide-reads.Learnt,
     item-reads.Asked,
     item-reads.Learnt,
+    only-reads.Asked,
+    only-reads.Learnt,
     is-range-reads.Asked,
     is-range-reads.Learnt,
     term-below,
     term-post,
+    end-at-reads.Asked,
+    end-at-reads.Learnt,
     calculate-reads.Asked,
     calculate-reads.Learnt,
+    both-reads.Asked,
+    both-reads.Learnt,
   )

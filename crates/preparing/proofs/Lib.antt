@@ -1,0 +1,4 @@
+pub mod CodeSteps
+pub mod Marking
+pub mod Standing
+pub mod Parts
