@@ -14,6 +14,7 @@
 #define FOR_ALL_16 "1410"
 #define EQUAL "16"
 #define UNEQUAL "18"
+#define NOT_LESS "19"
 #define NUMBER(v) "20" #v
 #define V(i) "210" #i
 #define UP(term) "2210" term NUMBER(01)
@@ -37,6 +38,22 @@
 #define IS_FIRST_3 AND EQUAL V(0) NUMBER(00) AND EQUAL V(1) NUMBER(00) EQUAL V(2) NUMBER(00)
 #define IS_LAST_3 AND EQUAL V(0) NUMBER(0f) AND EQUAL V(1) NUMBER(0f) EQUAL V(2) NUMBER(01)
 #define NOT_LAST_BUT_ONE_3 OR UNEQUAL V(0) NUMBER(0e) OR UNEQUAL V(1) NUMBER(0f) UNEQUAL V(2) NUMBER(01)
+
+/* A part for right sides of OF_512: the first two parameters count from 0 to 255, the third is 0 or 1. Where
+   `true_here` it is true; else it rests on the next number and, besides, on the same number with the other
+   third parameter or on number 255 with the third parameter `third`. So it is joined by both `and` and `or`,
+   and solving has to evaluate it from its body. All 512 are reached from the first, and with number 255 all
+   are true; with number 255 and a third parameter of 0, those with 0. */
+#define IS_255 AND EQUAL V(0) NUMBER(0f) EQUAL V(1) NUMBER(0f)
+#define PART(true_here, third)                                                                     \
+    OR true_here AND                                                                               \
+    OR AND UNEQUAL V(0) NUMBER(0f) X3(UP(V(0)), V(1), V(2))                                        \
+    AND EQUAL V(0) NUMBER(0f) X3(NUMBER(00), UP(V(1)), V(2))                                       \
+    OR X3(V(0), V(1), "2202" V(2) NUMBER(01)) X3(NUMBER(0f), NUMBER(0f), third)
+
+/* Four quantifiers around a place of such a right side, with the variables 3 to 6; not all of these are n. */
+#define FOR_ALL_FOUR FOR_ALL_16 FOR_ALL_16 FOR_ALL_16 FOR_ALL_16
+#define NOT_ALL(n) OR UNEQUAL V(3) n OR UNEQUAL V(4) n OR UNEQUAL V(5) n UNEQUAL V(6) n
 
 /* Two parameters of 16 values, counted in the same way from 0 to 255. */
 #define OF_256 "021010"
@@ -353,6 +370,39 @@ const struct family families[] = {
      OR AND EQUAL V(0) NUMBER(00) AND EQUAL V(1) NUMBER(00) EQUAL "2202" V(2) V(3) NUMBER(00)
      X3(V(0), V(1), "2202" V(2) V(3)) LINE
      "0201" LINE, NULL},
+    {MODEL, "part-alone", "a part of tests and instances, joined by `and` and `or`, in 512 right sides", 512,
+     LEAST OF_512 PART(IS_255, V(2)) LINE
+     "0200000000" LINE, NULL},
+    {LONG, "nested-none", "the same part in four nested 14 10 that it does not use", 512,
+     LEAST OF_512 FOR_ALL_FOUR PART(IS_255, V(2)) LINE
+     "0200000000" LINE, NULL},
+    {LONG, "nested-one", "the same, the part uses the innermost", 512,
+     LEAST OF_512 FOR_ALL_FOUR PART(IS_255, "2202" V(2) V(6)) LINE
+     "0200000000" LINE, NULL},
+    {LONG, "nested-outer", "the same, the part uses the outermost", 512,
+     LEAST OF_512 FOR_ALL_FOUR PART(IS_255, "2202" V(2) V(3)) LINE
+     "0200000000" LINE, NULL},
+    {LONG, "nested-all", "the same, the part uses all four: 65,536 cases in each of 512 right sides", 512,
+     LEAST OF_512 FOR_ALL_FOUR PART(IS_255, "2202" V(2) "2202" V(3) "2202" V(4) "2202" V(5) V(6)) LINE
+     "0200000000" LINE, NULL},
+    {MODEL, "decided-early", "four nested 14 10 that the first case decides, or the part", 512,
+     LEAST OF_512 OR FOR_ALL_FOUR NOT_ALL(NUMBER(00)) PART(IS_255, V(2)) LINE
+     "0200000000" LINE, NULL},
+    {LONG, "decided-late", "the same, the last case decides", 512,
+     LEAST OF_512 OR FOR_ALL_FOUR NOT_ALL(NUMBER(0f)) PART(IS_255, V(2)) LINE
+     "0200000000" LINE, NULL},
+    {LONG, "value-early", "the same, a false instance decides, and that in the first case", 512,
+     LEAST OF_512 OR FOR_ALL_FOUR OR NOT_ALL(NUMBER(00)) X3(NUMBER(0f), NUMBER(0f), NUMBER(01))
+     PART(AND EQUAL V(2) NUMBER(00) IS_255, V(2)) LINE
+     "0200000000" LINE, NULL},
+    {LONG, "value-late", "the same, in the last case", 512,
+     LEAST OF_512 OR FOR_ALL_FOUR OR NOT_ALL(NUMBER(0f)) X3(NUMBER(0f), NUMBER(0f), NUMBER(01))
+     PART(AND EQUAL V(2) NUMBER(00) IS_255, V(2)) LINE
+     "0200000000" LINE, NULL},
+    {MODEL, "decided-join", "a join that its first operand decides, the second is long, and the part", 512,
+     /* The test is true for every number, so nothing of the long operand is left. */
+     LEAST OF_512 AND OR NOT_LESS NUMBER(0f) V(0) OR NEXT_3 BACK_3 PART(IS_255, V(2)) LINE
+     "0200000000" LINE, NULL},
     {TRANSLATED, "translated", "the model that models/alternating-bit.process gives", 64,
      "09040604040404000002" LINE
      "0700192100200401230621002004210121022103" LINE

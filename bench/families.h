@@ -2,9 +2,10 @@
 #ifndef FAMILIES_H
 #define FAMILIES_H
 
-/* A model is checked, a process translated; of a translated one the model is checked that it gives. Of a replaced one
-   the first line is none of the text: three digits for an equation, then the digits of its new right side. */
-enum kind { MODEL, TRANSLATED, PROCESS, REPLACED };
+/* A model is checked, a process translated; of a translated one the model is checked that it gives. A long
+   one is a model that takes many seconds. Of a replaced one the first line is none of the text: three digits
+   for an equation, then the digits of its new right side. */
+enum kind { MODEL, TRANSLATED, LONG, PROCESS, REPLACED };
 
 /* `due`: how many instances are reached; for a process or a replaced one, the number of its refusal. */
 struct family {
