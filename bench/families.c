@@ -55,6 +55,10 @@
 #define FOR_ALL_FOUR FOR_ALL_16 FOR_ALL_16 FOR_ALL_16 FOR_ALL_16
 #define NOT_ALL(n) OR UNEQUAL V(3) n OR UNEQUAL V(4) n OR UNEQUAL V(5) n UNEQUAL V(6) n
 
+/* `and` and `or` by turns around what comes then, each with the instance of an equation with no parameter. */
+#define CHANGES_4 AND "1a0100" OR "1a0100" AND "1a0100" OR "1a0100"
+#define CHANGES_20 CHANGES_4 CHANGES_4 CHANGES_4 CHANGES_4 CHANGES_4
+
 /* Two parameters of 16 values, counted in the same way from 0 to 255. */
 #define OF_256 "021010"
 #define I2(e, a, b) "1a0" #e "02" a b
@@ -403,6 +407,15 @@ const struct family families[] = {
      /* The test is true for every number, so nothing of the long operand is left. */
      LEAST OF_512 AND OR NOT_LESS NUMBER(0f) V(0) OR NEXT_3 BACK_3 PART(IS_255, V(2)) LINE
      "0200000000" LINE, NULL},
+    {MODEL, "changes-20", "`and` and `or` by turns, 20 deep, in 256 right sides", 257,
+     /* The instance of the other equation is true; the last is true, every other rests on the next. */
+     LEAST OF_256 OR IS_LAST_2 CHANGES_20 NEXT_2(0) LINE
+     GREATEST "00" "11" LINE
+     "02000000" LINE, NULL},
+    {MODEL, "changes-40", "the same, 40 deep", 257,
+     LEAST OF_256 OR IS_LAST_2 CHANGES_20 CHANGES_20 NEXT_2(0) LINE
+     GREATEST "00" "11" LINE
+     "02000000" LINE, NULL},
     {TRANSLATED, "translated", "the model that models/alternating-bit.process gives", 64,
      "09040604040404000002" LINE
      "0700192100200401230621002004210121022103" LINE
