@@ -86,8 +86,9 @@ static void add_times(unsigned n, const char *bytes)
 
 /* ---- rings of counters --------------------------------------------------------------------------- */
 
-/* One parameter that counts from 0 to 15, or two that count as one number from 0 to 63. `next` is the number
-   one further, with a carry of 1 only where the lowest part is 15: it less 14, and not below 0. */
+/* One parameter that counts from 0 to 15, or two that go through 64 pairs. There the first goes round from 0 to 15,
+   and the second goes on by the remainder of the first by 15: in one round that is 105, one more than a multiple of
+   4, so all pairs come, and before (0, 0) comes again (15, 0). A pair counts as the number of its turn. */
 struct counter {
     const char *ranges, *first, *is_last, *is_not_last, *here, *next;
 };
@@ -97,8 +98,8 @@ static const struct counter of_16 = {
 
 static const struct counter of_64 = {
     "021004", "0000",
-    AND EQUAL V(0) NUMBER(0f) EQUAL V(1) NUMBER(03), OR UNEQUAL V(0) NUMBER(0f) UNEQUAL V(1) NUMBER(03),
-    "02" V(0) V(1), "02" UP(V(0)) "2204" V(1) "2310" V(0) NUMBER(0e)};
+    AND EQUAL V(0) NUMBER(0f) EQUAL V(1) NUMBER(00), OR UNEQUAL V(0) NUMBER(0f) UNEQUAL V(1) NUMBER(00),
+    "02" V(0) V(1), "02" UP(V(0)) "2204" V(1) "220f" V(0) NUMBER(00)};
 
 static void add_instance(unsigned equation, const char *arguments)
 {

@@ -85,7 +85,7 @@ static struct node *read_term(struct cursor *c, unsigned variables)
         c->bad = c->bad || n->number >= variables;
         break;
     case 0x22: /* the remainder of a sum */
-    case 0x23: /* the remainder of a difference */
+    case 0x23: /* a difference that goes round */
         n->number = next_within(c, 1, 16);
         for (; n->parts < 2 && !c->bad; n->parts++)
             n->part[n->parts] = read_term(c, variables);
@@ -317,7 +317,9 @@ static unsigned term_value(const struct node *term, const unsigned *values)
     b = term_value(term->part[1], values);
     if (term->code == 0x22)
         return (a + b) % term->number;
-    return (a > b ? a - b : 0) % term->number;
+    while (a < b) /* goes round: whole ranges more, until there is enough to take b away */
+        a += term->number;
+    return (a - b) % term->number;
 }
 
 static bool test_value(const struct node *f, const unsigned *values)

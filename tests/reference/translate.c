@@ -505,7 +505,7 @@ static unsigned term_value(const struct row *row, unsigned *at, const unsigned *
     b = term_value(row, at, values);
     if (code == 0x22)
         return (a + b) % number;
-    return (a > b ? a - b : 0) % number;
+    return (a % number + number - b % number) % number;
 }
 
 static bool condition_value(const struct row *row, unsigned *at, const unsigned *values)

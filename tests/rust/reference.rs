@@ -236,7 +236,10 @@ fn value(t: &Term, values: &[u8]) -> u8 {
         Term::Number(v) => *v,
         Term::Variable(i) => values[*i],
         Term::Sum(r, ab) => (value(&ab[0], values) + value(&ab[1], values)) % r,
-        Term::Difference(r, ab) => value(&ab[0], values).saturating_sub(value(&ab[1], values)) % r,
+        Term::Difference(r, ab) => {
+            let less = value(&ab[0], values) as i8 - value(&ab[1], values) as i8; // from -15 to 15
+            less.rem_euclid(*r as i8) as u8
+        }
     }
 }
 

@@ -100,8 +100,6 @@ samples =
     (full (fails-with 1 0 0b0) (0 ∷ [])) ∷
     sample "01000015031721002002\n0200\n" "040001\n050100010001\n"
     (full (holds-with 1 1 0b1) (0 ∷ [])) ∷
-    sample "010000162304200220032000\n0200\n" "040001\n050100010001\n"
-    (full (holds-with 1 1 0b1) (0 ∷ [])) ∷
     sample "0200\n" "06040001\n"
     (full (refusal 4 1) []) ∷
     -- request 2026-02: "The 01 case `0100001A0000/0200` now fails, 1, 0"; both cases in one byte; a letter
@@ -112,6 +110,14 @@ samples =
     (full (holds-with 1 1 0b1) (0 ∷ [])) ∷
     sample "0100001G0000\n0200\n" "06020001\n"
     (full (refusal 2 1) []) ∷
+    -- request 2026-04: "the 01 case with `2304` fails, 1, 0"; 2-3 is 3; down from 1 a counter comes to 2
+    sample "010000162304200220032000\n0200\n" "040000\n050000010000\n"
+    (full (fails-with 1 0 0b0) (0 ∷ [])) ∷
+    sample "010000162304200220032003\n0200\n" "040001\n050100010001\n"
+    (full (holds-with 1 1 0b1) (0 ∷ [])) ∷
+    sample "010001041316210020021a0001230421002001\n020001\n"
+    "04000101\n04000001\n04000301\n04000201\n050100040004\n"
+    (full (holds-with 4 4 0b1111) (4_096 ∷ 0 ∷ 12_288 ∷ 8_192 ∷ [])) ∷
     []
 
 -- the words that are lent, as they were
@@ -132,8 +138,8 @@ outcome s = (printed (bytes (s .text)), map (given (bytes (s .text))) (s .lendin
 abbrev pub expected : Sample → List ℕ × List (Answer × List ℕ)
 expected s = (bytes (s .output), map promised (s .lendings))
 
--- every sample marked P has the output, the answer and the table that document 01 gives, and those of request
--- 2026-02 what it gives
+-- every sample marked P has the output, the answer and the table that document 01 gives, and those of
+-- requests 2026-02 and 2026-04 what these give
 pub samples-computed : map outcome samples ≡ map expected samples
 unfolding bytes-from bytes _and_ _or_ _⇒_ join over same mem all every some least greatest solution sum
     difference value holds spread in-range system meaning join-simplified simplified leaves instances

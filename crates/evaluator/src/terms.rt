@@ -8,7 +8,6 @@ ghost use Rattle.formulas.specs.Tuples.{items};
 ghost use Rattle.looked.specs.Looked.{looked-term, looked-terms};
 ghost use Rattle.prepared.specs.Prepared.{term-there, terms-there};
 ghost use Rattle.evaluator.specs.Replies.{TermValued, TermsValued};
-use basics::wide;
 use formulas::TermKind;
 use formulas::Tuple;
 use formulas::is_range;
@@ -30,20 +29,23 @@ pub(crate) struct TermValues {
     pub(crate) looked: u8,
 }
 
+// The remainder by r of the sum, or of the difference with b times r added, which is not below 0.
 fn calculate(plus: bool, r: u8, a: u8, b: u8) -> u8
     ensures { λ v. ⌜ (0 < r → v ≡ calculation plus r a b) ⌝ }
 {
     if r == 0 {
         return 0;
     }
-    if plus {
-        let sum = (wide(a) + wide(b)) % wide(r);
-        sum as u8
-    } else if b <= a {
-        (a - b) % r
+    let range = r as u32;
+    let first = a as u32;
+    let second = b as u32;
+    let whole = if plus {
+        first + second
     } else {
-        0
-    }
+        first + second * range - second
+    };
+    let rest = whole % range;
+    rest as u8
 }
 
 fn term_value(value: u8, looked: u8) -> TermValue
