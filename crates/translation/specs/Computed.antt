@@ -81,6 +81,9 @@ z = variable 2
 abbrev increased : ℕ → Term → Term
 increased r t = calculated true r t (number 1)
 
+abbrev decreased : ℕ → Term → Term
+decreased r t = calculated false r t (number 1)
+
 -- 09010300/0700172100200200220321002001/08331230113400311111
 abbrev counting : List Summand
 counting = summand [] (compared less x (number 2)) 0 (increased 3 x ∷ []) ∷ []
@@ -102,6 +105,21 @@ some-time-a-step = sample (process (3 ∷ []) (1 ∷ []) counting)
     (model-equation false (3 ∷ []) (joined false
     (joined true (compared less x (number 2)) (instance 0 (increased 3 x ∷ [])))
     (joined true (compared less x (number 2)) (constant true))) ∷ [])
+    true
+
+-- a counter goes down and round (2026-04), from 1 to 0, 3 and 2, where step 1 can be done
+-- 09010401/0700182100200200230421002001/07001621002002012100/0832133111340031360111
+abbrev going-round : Sample
+going-round = sample (process (4 ∷ []) (1 ∷ [])
+    (summand [] (compared unequal x (number 2)) 0 (decreased 4 x ∷ []) ∷
+    summand [] (compared equal x (number 2)) 1 (x ∷ []) ∷ []))
+    (fixed-point false (combined false (after false any-action (of-fixed-point 0))
+    (after false (only 1) (truth true))))
+    (model-equation false (4 ∷ []) (joined false
+    (joined false
+    (joined true (compared unequal x (number 2)) (instance 0 (decreased 4 x ∷ [])))
+    (joined true (compared equal x (number 2)) (instance 0 (x ∷ []))))
+    (joined true (compared equal x (number 2)) (constant true))) ∷ [])
     true
 
 -- no fixed point in front; two own variables; a diamond within a box, at the state after the box's step
@@ -179,7 +197,7 @@ in-front = sample (process (2 ∷ 2 ∷ []) (0 ∷ 1 ∷ [])
     false
 
 unfoldable pub samples : List Sample
-samples = always-a-step ∷ some-time-a-step ∷ nested ∷ beside ∷ constants ∷ in-front ∷ []
+samples = always-a-step ∷ some-time-a-step ∷ going-round ∷ nested ∷ beside ∷ constants ∷ in-front ∷ []
 
 pub samples-computed : map outcome samples ≡ map expected samples
 unfolding samples outcome expected meaning solution least greatest every some all mem same _and_ _or_ _⇒_
