@@ -86,9 +86,10 @@ static void add_times(unsigned n, const char *bytes)
 
 /* ---- rings of counters --------------------------------------------------------------------------- */
 
-/* One parameter that counts from 0 to 15, or two that go through 64 pairs. There the first goes round from 0 to 15,
-   and the second goes on by the remainder of the first by 15: in one round that is 105, one more than a multiple of
-   4, so all pairs come, and before (0, 0) comes again (15, 0). A pair counts as the number of its turn. */
+/* One parameter that counts from 0 to 15, or two that go through 64 pairs. There the first goes round from 0
+   to 15, and the second goes on by the remainder of the first by 15: in one round that is 105, one more than a
+   multiple of 4, so all pairs come, and before (0, 0) comes again (15, 0). A pair counts as the number of its
+   turn. */
 struct counter {
     const char *ranges, *first, *is_last, *is_not_last, *here, *next;
 };

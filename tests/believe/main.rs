@@ -12,7 +12,8 @@ const END: &str = "<!-- believed: end -->\n";
 /// those that the page names: the others serve the proofs of the code.
 const HEADLINES: &str = "answers/specs/Demand1 answers/specs/Demand2 answers/specs/Demand3
     frames/specs/RoundTrip reading/proofs/LineNumbers answers/specs/Samples checker/specs/Lent checker/specs/Promises
-    meaning/specs/Looser meaning/specs/Counterexamples printing/specs/Promise printing/proofs/Answered
+    meaning/specs/Looser meaning/specs/Counterexamples meaning/specs/GoesRound printing/specs/Promise
+    printing/proofs/Answered
     translation/specs/Correct translation/specs/Sound translation/specs/Looser spelling/specs/ModelText
     inputs/specs/Content translator/specs/Answers translator/specs/Printed translator/specs/Theorems replacer/specs/Order replacer/specs/Theorems
     replacer/specs/Samples digits/proofs/Letters frames/specs/Letters reading/specs/Letters answers/specs/Letters

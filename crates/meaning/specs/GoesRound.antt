@@ -6,10 +6,11 @@ use native.Mathlib.Nat.{add-mul, le-mul-of-pos-right, mod-add-div', mod-add-mod,
 use native.Mathlib.Nat.{add-mul-mod-self-right, mul-add-mod-self-right, eq-zero-or-pos}
 use mathlib.Core.Path.{_≡_, refl, sym, ap, _∙_}
 use mathlib.Core.Bool.{false}
+use mathlib.Core.List.{List}
 use mathlib.Core.Logic.{_⊎_, inl, inr}
 use lib.IntN.{ℤ, pos, negsuc, negℤ, natAbs, _+ℤ_, _-ℤ_, _*ℤ_, negℤ-+ℤ, negℤ-negℤ, +ℤ-comm, +ℤ-assoc}
 use lib.IntN.{+ℤ-idl, +ℤ-invr, +ℤ-negℤ-cancel, -ℤ-+ℤ-cancel}
-use Rattle.meaning.specs.Formulas.{sum, difference}
+use Rattle.meaning.specs.Formulas.{Term, calculated, sum, difference, value}
 use Rattle.meaning.specs.Calculations.{calculation-below}
 
 -- DEFINITION: "a multiple of r", among the integers
@@ -52,7 +53,7 @@ not-below-zero r a b h =
     let apart : a + b * r - b ≡ a - b + b * r = omega arith in
     ap (λ n. n % r) apart ∙ add-mul-mod-self-right (a - b) b r
 
--- the same remainder by r: then x - y is a multiple of r, whether y is less or greater
+-- x is n ranges above y, or so many below it: x - y is that multiple
 above : (r x y n : ℕ) → x ≡ n * r + y → MultipleOf r (pos x -ℤ pos y)
 above r x y n h =
     record { times = pos n; equals = ap (λ k. pos k -ℤ pos y) h ∙ +ℤ-negℤ-cancel (pos (n * r)) (pos y) }
@@ -68,9 +69,11 @@ beneath r x y n h = record {
   equals = ap (λ k. pos x -ℤ pos k) (sym h) ∙ less-itself (pos x) (pos (suc n * r));
 }
 
+-- p times is what it is more often than q times, and q times
 parted : (r p q : ℕ) → q ≤ p → p * r ≡ (p - q) * r + q * r
 parted r p q h = ap (λ n. n * r) (omega arith) ∙ add-mul (p - q) q r
 
+-- the same remainder by r, and the quotients p and q: x - y is a multiple of r, whichever quotient is greater
 by-quotients : (r x y p q : ℕ) → x % r ≡ y % r → x % r + p * r ≡ x → y % r + q * r ≡ y
     → (q - p ≡ 0) ⊎ (0 < q - p) → MultipleOf r (pos x -ℤ pos y)
 by-quotients r x y p q same of-x of-y (inl h) =
@@ -117,6 +120,12 @@ goes-round r a b h =
         equals = turned (pos d) (pos a) (pos b) ∙ m .equals;
       };
     }
+
+-- THEOREM: so is the value of the term, whatever the values v of the variables in reach are
+pub value-goes-round : (r : ℕ) (a b : Term) (v : List ℕ) → 0 < r →
+    GoesRound r (value a v) (value b v) (value (calculated false r a b) v)
+unfolding value
+value-goes-round r a b v h = goes-round r (value a v) (value b v) h
 
 -- THEOREM: there is just one such number
 pub only-goes-round : (r a b d : ℕ) → GoesRound r a b d → d ≡ difference r a b
