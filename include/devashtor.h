@@ -12,8 +12,9 @@ extern "C" {
 /* The least length that `out` must have: no answer has more bytes. */
 #define DEVASHTOR_ROOM 7693
 
-/* The stack that a check takes at most, or the replacing of a right side, whatever the text, with what a thread's
-   own start takes: a thread that calls devashtor_check or devashtor_replace needs no more than this. */
+/* The stack that a check takes at most, or finding, solving or the replacing of a right side, whatever the text,
+   with what a thread's own start takes: a thread that calls devashtor_check, devashtor_find, devashtor_solve or
+   devashtor_replace needs no more than this. */
 #define DEVASHTOR_STACK 147456
 
 /* The same for a thread that calls devashtor_translate. */
@@ -26,11 +27,36 @@ extern "C" {
    may be null, also where its length is 0. */
 size_t devashtor_check(const uint8_t *text, size_t text_length, uint8_t *out, size_t out_length);
 
-/* Functions that give a uint64_t give the length of what they have written, or the word of a refusal. These
-   tell which it is, and of a refusal its number and its line. */
+/* Functions that give a uint64_t give the length of what they have written, or how many they have found, or the
+   word of a refusal. These tell which it is, and of a refusal its number and its line. */
 #define DEVASHTOR_REFUSED(r) ((int)((uint64_t)(r) >> 63))
 #define DEVASHTOR_NUMBER(r) ((unsigned)((uint64_t)(r) >> 32 & 0x7fffffff))
 #define DEVASHTOR_LINE(r) ((unsigned)((uint64_t)(r) & 0xffffffff))
+
+/* No list has more words: of a model that reaches more instances the rest is not found. */
+#define DEVASHTOR_LIST 512
+
+/* The word of an instance: equation * 65536 + its first argument * 4096 + its second * 256 + its third * 16 + its
+   fourth, absent ones 0. */
+#define DEVASHTOR_EQUATION(word) ((unsigned)((uint32_t)(word) >> 16))
+#define DEVASHTOR_ARGUMENT(word, i) ((unsigned)((uint32_t)(word) >> (12 - 4 * (i)) & 15))
+
+/* Finds the reached instances of the model in text[0 .. text_length), writes their words into `table`, in the order
+   of finding, the start first, and gives their number; the words of `table` after them stay as they were. It does
+   not solve: what is true of them devashtor_solve tells.
+   On a refusal it gives 2^63 + number * 2^32 + line: what the text is refused by, 1 to 8, and `table` stays
+   untouched; or 9, line 0, where more instances are reached than `table` has words, or than DEVASHTOR_LIST: then it
+   holds those found first, as many as there is room. Any bytes are a text. `text` and `table` must not overlap, and
+   neither may be null, also where its length is 0. */
+uint64_t devashtor_find(const uint8_t *text, size_t text_length, uint32_t *table, size_t words);
+
+/* Solves the list that devashtor_find has found: writes into `out` what devashtor_check writes for that text, if
+   list[0 .. words) is just the list of its reached instances. The list is not trusted: where it is any other, of
+   another length or in another order, the line of refusal 11, line 0, is written, after 1 to 8; never that of 9.
+   `list` is not written. Everything else is as with devashtor_check. `out` must not overlap `text` or `list`, and
+   none of them may be null, also where its length is 0. */
+size_t devashtor_solve(const uint8_t *text, size_t text_length, const uint32_t *list, size_t words, uint8_t *out,
+                       size_t out_length);
 
 /* No translated text has more bytes, so a buffer of this length is never refused as too short. */
 #define DEVASHTOR_TRANSLATED 4117

@@ -418,7 +418,8 @@ struct place {
     enum shape shape;
 };
 
-static uint32_t reached[ROOM];
+static unsigned room;              /* how many may be reached, at most ROOM */
+static uint32_t reached[ROOM + 1]; /* where there are more, the next one stands behind them */
 static struct place places[ROOM];
 static uint16_t number_after[WORDS]; /* by word: one more than the instance's number, 0 where it has none */
 static uint64_t of_sign[2][CELLS], within[EQUATIONS][CELLS]; /* the instances of a sign, and of an equation */
@@ -433,9 +434,10 @@ static bool reach(uint32_t word)
     unsigned j = reference_reached, e = word >> 16;
     if (number_after[word] != 0)
         return true;
-    if (j == ROOM)
+    reached[j] = word;
+    if (j == room)
         return refuse(9, 0);
-    reached[reference_reached++] = word;
+    reference_reached++;
     number_after[word] = (uint16_t)(j + 1);
     memset(&places[j], 0, sizeof places[j]);
     within[e][j / 64] |= bit_of(j);
@@ -465,14 +467,16 @@ static bool look_at(unsigned j)
     return true;
 }
 
-static bool find(void)
+static bool find(unsigned most)
 {
     unsigned arguments[4];
+    room = most;
     memset(of_sign, 0, sizeof of_sign);
     memset(within, 0, sizeof within);
     for (unsigned i = 0; i + 1 < start_length; i++)
         arguments[i] = start[i + 1];
-    reach(word_of(start[0], arguments, start_length - 1));
+    if (!reach(word_of(start[0], arguments, start_length - 1)))
+        return false;
     for (unsigned j = 0; j < reference_reached; j++)
         if (!look_at(j))
             return false;
@@ -759,7 +763,7 @@ int reference_agrees(void)
     return reference_steps > enough ? -1 : same;
 }
 
-/* ---- reading alone --------------------------------------------------------------------------- */
+/* ---- reading alone, and finding alone -------------------------------------------------------- */
 
 void reference_read(const uint8_t *text, size_t length)
 {
@@ -774,6 +778,19 @@ bool reference_side(size_t equation, size_t *place, size_t *length)
     *place = equations[equation].place;
     *length = equations[equation].length;
     return true;
+}
+
+void reference_find(const uint8_t *text, size_t length, unsigned most)
+{
+    forget();
+    reference_steps = 0;
+    if (read_text(text, length))
+        find(most);
+}
+
+uint32_t reference_word(unsigned j)
+{
+    return reached[j];
 }
 
 /* ---- printing ------------------------------------------------------------------------------ */
@@ -795,7 +812,7 @@ size_t reference_print(const uint8_t *text, size_t length, uint8_t *out)
     forget();
     reference_steps = reference_evaluations = 0;
     reference_spent = false;
-    if (!read_text(text, length) || !find()) {
+    if (!read_text(text, length) || !find(ROOM)) {
         n = reference_number;
         return print_frame(out, (unsigned[]){6, n, reference_line / 256, reference_line % 256}, 4);
     }

@@ -19,7 +19,16 @@ void reference_read(const uint8_t *text, size_t length);
    from 0, and its length in bytes. False: the text was refused, or there is no such equation. */
 bool reference_side(size_t equation, size_t *place, size_t *length);
 
-/* The refusal's number and line for the last text printed or read (0 and 0: none), how many
+/* Reads the text and finds its reached instances, as many as there is room for, which is at most 512; it does not
+   solve. The refusal is then one of 1 to 8, or 9 where there are more, or none. */
+void reference_find(const uint8_t *text, size_t length, unsigned room);
+
+/* The word of reached instance j of the last text printed or found in: equation * 65536 + its first argument * 4096
+   + its second * 256 + its third * 16 + its fourth. Where that text was refused by 9, number reference_reached is the
+   first one that there was no room for. */
+uint32_t reference_word(unsigned j);
+
+/* The refusal's number and line for the last text printed, read or found in (0 and 0: none), how many
    instances were reached, and how many formulas and terms were met while it was found and solved,
    each right side counted as a whole with its quantifiers written out; where a right side is judged by
    the set of what it reads, as one. */

@@ -295,23 +295,21 @@ fn left_to_right(right: &Simple, meet: &mut impl FnMut(&Instance)) {
     }
 }
 
-/// The reached instances in order of finding with their simplified right sides; None: over room.
-fn find(model: &Model) -> Option<(Vec<Instance>, Vec<Simple>)> {
+/// The reached instances in order of finding, with their simplified right sides; where there are more than room, it
+/// stops at the first one too many.
+fn reach(model: &Model, room: usize) -> (Vec<Instance>, Vec<Simple>) {
     let (mut found, mut rights) = (vec![model.start.clone()], Vec::new());
-    while rights.len() < found.len() {
+    while rights.len() < found.len() && found.len() <= room {
         let (e, arguments) = found[rights.len()].clone();
         let right = simplify(&model.equations[e].body, &mut arguments.clone());
         left_to_right(&right, &mut |instance| {
-            if found.len() <= ROOM && !found.contains(instance) {
+            if found.len() <= room && !found.contains(instance) {
                 found.push(instance.clone());
             }
         });
         rights.push(right);
-        if found.len() > ROOM {
-            return None;
-        }
     }
-    Some((found, rights))
+    (found, rights)
 }
 
 // ---- the game -----------------------------------------------------------------------------------
@@ -428,7 +426,10 @@ impl Game {
 /// The reached instances with their values, or the refusal.
 pub fn check(text: &[u8]) -> Result<Vec<(Instance, bool)>, Refusal> {
     let model = read(text)?;
-    let (found, rights) = find(&model).ok_or((9, 0))?;
+    let (found, rights) = reach(&model, ROOM);
+    if found.len() > ROOM {
+        return Err((9, 0));
+    }
     let game = Game::of(&model, &found, &rights);
     let truth = game.truth(vec![true; game.next.len()]);
     Ok(found.into_iter().zip(truth).collect())
@@ -436,9 +437,13 @@ pub fn check(text: &[u8]) -> Result<Vec<(Instance, bool)>, Refusal> {
 
 /// What the checking program prints for this text.
 pub fn print(text: &[u8]) -> Vec<u8> {
+    lines(check(text))
+}
+
+fn lines(answer: Result<Vec<(Instance, bool)>, Refusal>) -> Vec<u8> {
     let two = |n: usize| [(n / 256) as u8, (n % 256) as u8];
     let mut frames: Vec<Vec<u8>> = Vec::new();
-    match check(text) {
+    match answer {
         Err((number, line)) => frames.push([vec![6, number], two(line).to_vec()].concat()),
         Ok(list) => {
             for ((e, arguments), holds) in &list {
@@ -454,4 +459,34 @@ pub fn print(text: &[u8]) -> Vec<u8> {
         out.push('\n');
     }
     out.into_bytes()
+}
+
+// ---- finding and solving apart ------------------------------------------------------------------
+
+/// Equation, first, second, third and fourth argument, absent ones 0.
+fn word((e, arguments): &Instance) -> u32 {
+    let places = arguments.iter().zip([4_096, 256, 16, 1]);
+    places.fold(65_536 * *e as u32, |word, (argument, place)| word + place * u32::from(*argument))
+}
+
+/// The words that finding writes into a table of so many, and what it refuses by.
+pub fn find(text: &[u8], words: usize) -> (Vec<u32>, Option<Refusal>) {
+    match read(text) {
+        Err(refusal) => (vec![], Some(refusal)),
+        Ok(model) => {
+            let room = words.min(ROOM);
+            let (found, _) = reach(&model, room);
+            let over = if found.len() > room { Some((9, 0)) } else { None };
+            (found.iter().take(room).map(word).collect(), over)
+        }
+    }
+}
+
+/// What solving prints for this text with this list: what checking prints, or the line of 11.
+pub fn solve(text: &[u8], list: &[u32]) -> Vec<u8> {
+    match find(text, ROOM) {
+        (its, None) if its == list => print(text),
+        (_, None | Some((9, _))) => lines(Err((11, 0))),
+        (_, Some(refusal)) => lines(Err(refusal)),
+    }
 }

@@ -1,9 +1,10 @@
-/* Checks and translates the texts that take the most stack, and replaces right sides in them, in a thread that has
-   just DEVASHTOR_STACK bytes of it, or DEVASHTOR_TRANSLATE_STACK, and says how much was used: bodies, conditions,
-   terms and formulas as deep as a frame of 256 bytes allows, that are read and that are refused. What each must answer
-   is known from how it is made: the constants around its one instance, or around its one constant, change nothing,
-   and a translation keeps them; a body stands in the old text, or is the new right side, or both. The first wrong
-   answer, or more stack than stated, ends it. */
+/* Checks and translates the texts that take the most stack, finds their lists and solves them apart, and replaces
+   right sides in them, in a thread that has just DEVASHTOR_STACK bytes of it, or DEVASHTOR_TRANSLATE_STACK, and says
+   how much was used: bodies, conditions, terms and formulas as deep as a frame of 256 bytes allows, that are read and
+   that are refused. What each must answer is known from how it is made: the constants around its one instance, or
+   around its one constant, change nothing, and a translation keeps them; a body stands in the old text, or is the new
+   right side, or both. The list is the one in the answer. The first wrong answer, or more stack than stated, ends
+   it. */
 #define _DEFAULT_SOURCE
 #include "devashtor.h"
 
@@ -19,7 +20,14 @@ static const char fails[] = "040000\n050000010000\n", holds[] = "040001\n0501000
 
 static char text[40000], body[600];
 static uint8_t answer[DEVASHTOR_TEXT], side[300];
-static size_t length, written, equation, side_length, most_checked, most_translated, most_replaced;
+static uint32_t list[DEVASHTOR_LIST], table[DEVASHTOR_LIST]; /* what is lent to be solved, and what is found */
+static size_t length, written, equation, side_length, list_length;
+
+/* What a thread does, the stack that it has for it, and the most that was used so far. */
+struct job {
+    void *(*work)(void *);
+    size_t stack, most;
+};
 
 static void *check(void *nothing)
 {
@@ -27,7 +35,19 @@ static void *check(void *nothing)
     return nothing;
 }
 
+static void *solve(void *nothing)
+{
+    written = devashtor_solve((const uint8_t *)text, length, list, list_length, answer, sizeof answer);
+    return nothing;
+}
+
 static uint64_t word;
+
+static void *find(void *nothing)
+{
+    word = devashtor_find((const uint8_t *)text, length, table, DEVASHTOR_LIST);
+    return nothing;
+}
 
 static void *translate(void *nothing)
 {
@@ -41,18 +61,41 @@ static void *replace(void *nothing)
     return nothing;
 }
 
+static struct job checking = {check, DEVASHTOR_STACK, 0}, finding = {find, DEVASHTOR_STACK, 0},
+                  solving = {solve, DEVASHTOR_STACK, 0}, replacing = {replace, DEVASHTOR_STACK, 0},
+                  translating = {translate, DEVASHTOR_TRANSLATE_STACK, 0};
+
 static void trouble(const char *what)
 {
     perror(what);
     exit(2);
 }
 
+/* One word in a line, in hexadecimal. */
+static size_t put_words(const uint32_t *words, size_t count, char *into)
+{
+    size_t n = 0;
+    for (size_t i = 0; i < count; i++)
+        n += (size_t)sprintf(into + n, "%08x\n", (unsigned)words[i]);
+    return n;
+}
+
+/* What a word tells, as the lines that are compared: the text written, the list found, or the refusal. */
+static void show_word(const struct job *job)
+{
+    if (DEVASHTOR_REFUSED(word))
+        written = (size_t)sprintf((char *)answer, "06%02x%04x\n", DEVASHTOR_NUMBER(word), DEVASHTOR_LINE(word));
+    else if (job == &finding && word <= DEVASHTOR_LIST)
+        written = put_words(table, (size_t)word, (char *)answer);
+    else
+        written = (size_t)word;
+}
+
 /* The text in a thread with exactly so much stack, with memory below it that may not be touched. */
-static void run(void *(*job)(void *), const char *name, const char *expected)
+static void run(struct job *job, const char *name, const char *expected)
 {
     static uint8_t *area;
-    size_t fence = 64 * 1024, stack = job == translate ? DEVASHTOR_TRANSLATE_STACK : DEVASHTOR_STACK, used = stack;
-    size_t *most = job == check ? &most_checked : job == translate ? &most_translated : &most_replaced;
+    size_t fence = 64 * 1024, stack = job->stack, used = stack;
     pthread_attr_t attributes;
     pthread_t thread;
     if (area == NULL) {
@@ -61,18 +104,17 @@ static void run(void *(*job)(void *), const char *name, const char *expected)
             trouble("memory");
     }
     memset(area + fence, PAINT, stack);
+    memset(answer, 0, sizeof answer);
+    memset(table, 0xff, sizeof table);
     if (pthread_attr_init(&attributes) != 0 || pthread_attr_setstack(&attributes, area + fence, stack) != 0 ||
-        pthread_create(&thread, &attributes, job, NULL) != 0 || pthread_join(thread, NULL) != 0)
+        pthread_create(&thread, &attributes, job->work, NULL) != 0 || pthread_join(thread, NULL) != 0)
         trouble("thread");
     while (used > 0 && area[fence + stack - used] == PAINT)
         used--;
-    if (used > *most)
-        *most = used;
-    if (job != check) {
-        written = (size_t)word;
-        if (DEVASHTOR_REFUSED(word))
-            written = (size_t)sprintf((char *)answer, "06%02x%04x\n", DEVASHTOR_NUMBER(word), DEVASHTOR_LINE(word));
-    }
+    if (used > job->most)
+        job->most = used;
+    if (job != &checking && job != &solving)
+        show_word(job);
     if (written != strlen(expected) || memcmp(answer, expected, written) != 0) {
         printf("stack.c: a wrong answer for %s:\n%.*s", name, (int)written, answer);
         exit(1);
@@ -88,12 +130,17 @@ static void put_model(const char *its_body)
     length = (size_t)sprintf(text, "010000%s\n0200\n", its_body);
 }
 
+static unsigned byte_of(const char *digits)
+{
+    return (unsigned)strtoul((const char[]){digits[0], digits[1], 0}, NULL, 16);
+}
+
 /* The bytes of these digits are the new right side of this equation. */
 static void put_side(size_t of, const char *digits)
 {
     equation = of;
     for (side_length = 0; *digits != 0; digits += 2)
-        side[side_length++] = (uint8_t)strtoul((const char[]){digits[0], digits[1], 0}, NULL, 16);
+        side[side_length++] = (uint8_t)byte_of(digits);
 }
 
 /* The model with the old body, and the new one for it: the model with the new one comes out, or a refusal. */
@@ -104,14 +151,41 @@ static void replaced(const char *name, const char *how, const char *old, const c
     put_side(0, new);
     sprintf(whole, "%s, %s", name, how);
     sprintf(expected, "010000%s\n0200\n", new);
-    run(replace, whole, refusal != NULL ? refusal : expected);
+    run(&replacing, whole, refusal != NULL ? refusal : expected);
+}
+
+/* The list that stands in an answer: in a line 04 the equation, its arguments, and the value. None in a refusal. */
+static void put_list(const char *expected)
+{
+    list_length = 0;
+    for (const char *line = expected; strncmp(line, "04", 2) == 0; line = strchr(line, '\n') + 1) {
+        unsigned shift = 16;
+        uint32_t its_word = byte_of(line + 2) << shift;
+        for (const char *argument = line + 4; argument[2] != '\n'; argument += 2)
+            its_word |= byte_of(argument) << (shift -= 4);
+        list[list_length++] = its_word;
+    }
+}
+
+/* The text is checked; its list is found; and the list is solved. */
+static void checked(const char *name, const char *expected)
+{
+    static char found[9 * DEVASHTOR_LIST + 1];
+    char whole[300];
+    run(&checking, name, expected);
+    put_list(expected);
+    put_words(list, list_length, found);
+    sprintf(whole, "%s, found", name);
+    run(&finding, whole, list_length == 0 ? expected : found);
+    sprintf(whole, "%s, solved", name);
+    run(&solving, whole, expected);
 }
 
 static void model(const char *name, const char *expected)
 {
     const char *refusal = strcmp(expected, refused) == 0 ? refused : NULL;
     put_model(body);
-    run(check, name, expected);
+    checked(name, expected);
     replaced(name, "replaced", body, "11", refusal);
     replaced(name, "as the new right side", "11", body, refusal);
     replaced(name, "replaced by itself", body, body, refusal);
@@ -194,17 +268,17 @@ static void eight(void)
         length += (size_t)sprintf(text + length, "010%d00%s\n", e % 2, body);
     }
     length += (size_t)sprintf(text + length, "0200\n");
-    run(check, "eight equations", "040000\n040100\n040200\n040300\n040400\n040500\n040600\n040700\n050000080000\n");
+    checked("eight equations", "040000\n040100\n040200\n040300\n040400\n040500\n040600\n040700\n050000080000\n");
 }
 
 /* Their last body put in place of itself; then the same in the longest text, which 9,553 notes fill up. */
 static void eight_replaced(void)
 {
     put_side(7, body);
-    run(replace, "eight equations, the last replaced by itself", text);
+    run(&replacing, "eight equations, the last replaced by itself", text);
     while (length < DEVASHTOR_TEXT)
         length += (size_t)sprintf(text + length, "03\n");
-    run(replace, "eight equations in the longest text, the last replaced by itself", text);
+    run(&replacing, "eight equations in the longest text, the last replaced by itself", text);
 }
 
 /* The model that spends the budget of the rounds, so that it is solved equation within equation, with joins as
@@ -225,7 +299,7 @@ static void spent(void)
         length += (size_t)sprintf(text + length, "%.*s%s\n", head, line, body);
     }
     spare = 0;
-    run(check, "eight equations, the budget spent", expected);
+    checked("eight equations, the budget spent", expected);
 }
 
 /* ---- processes and formulas ------------------------------------------------------------------------ */
@@ -236,13 +310,13 @@ static void process(const char *name, const char *before, const char *after, con
     char expected[1200];
     length = (size_t)sprintf(text, "%s%s%s", before, body, after);
     sprintf(expected, "%s%s%s", model_before, body, model_after);
-    run(translate, name, expected);
+    run(&translating, name, expected);
 }
 
 static void refused_process(const char *name, const char *before, const char *after, const char *expected)
 {
     length = (size_t)sprintf(text, "%s%s%s", before, body, after);
-    run(translate, name, expected);
+    run(&translating, name, expected);
 }
 
 static void times(int n, const char *bytes)
@@ -258,7 +332,7 @@ static void deep_joins(int form)
     joins("11", form % 2, form / 2);
     process("a formula of joins", "0900\n0833", "\n", "010100", "\n0200\n");
     length = (size_t)sprintf(text, "0900\n0700%s00\n0811\n", body);
-    run(translate, "a condition of joins, not used", "01010011\n0200\n");
+    run(&translating, "a condition of joins, not used", "01010011\n0200\n");
     body[0] = 0;
     spare = 2;
     joins("11", form % 2, form / 2);
@@ -283,13 +357,13 @@ static void processes(void)
     length = (size_t)sprintf(text, "09041010101000010203\n070011002101210221032100\n0832%s3400\n", body);
     times(119, "1310"); /* what each box over a step that may always be done becomes */
     sprintf(expected, "01000410101010%s1a00042103210021012102\n020000010203\n", body); /* 119 places further, of four */
-    run(translate, "119 boxes, variables that go back through all", expected);
+    run(&translating, "119 boxes, variables that go back through all", expected);
 
     times(123, "3011");
     length = (size_t)sprintf(text, "09011001\n070011002100\n0832%s3400\n", body);
     times(123, "1310");
     sprintf(expected, "01000110%s1a00012100\n020001\n", body);
-    run(translate, "123 boxes, a variable that goes back through all", expected);
+    run(&translating, "123 boxes, a variable that goes back through all", expected);
 
     times(124, "3011");
     refused_process("124 boxes, terms that double", "09011001\n07001100221021002100\n0832", "3400\n", "060f0000\n");
@@ -339,7 +413,8 @@ int main(void)
     eight_replaced();
     spent();
     processes();
-    printf("stack.c: at most %zu of %d bytes to check, %zu of them to replace, %zu of %d to translate\n", most_checked,
-           DEVASHTOR_STACK, most_replaced, most_translated, DEVASHTOR_TRANSLATE_STACK);
+    printf("stack.c: at most %zu of %d bytes to check, %zu of them to find, %zu to solve, %zu to replace",
+           checking.most, DEVASHTOR_STACK, finding.most, solving.most, replacing.most);
+    printf(", %zu of %d to translate\n", translating.most, DEVASHTOR_TRANSLATE_STACK);
     return 0;
 }

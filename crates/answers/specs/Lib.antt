@@ -5,6 +5,7 @@ pub mod Printed
 pub mod Demand1
 pub mod Demand2
 pub mod Demand3
+pub mod Apart
 pub mod Letters
 pub mod OneReply
 -- the definitions tried on the sample models

@@ -6,7 +6,8 @@ use mathlib.Core.List.{List}
 use Rattle.meaning.specs.OneReply.{one-reply}
 use Rattle.answers.specs.declared.Answer.{Answer}
 use Rattle.answers.specs.Answers.{refusal, answer, table-after, checked, table-after-check}
-use Rattle.answers.specs.Printed.{printed, bytes-written, buffer-after}
+use Rattle.answers.specs.Answers.{list-answer, solved}
+use Rattle.answers.specs.Printed.{printed, printed-solved, bytes-written, buffer-after}
 
 -- the refusal
 pub one-refusal : (number line : ℕ) {a b : Answer} → a ≡ refusal number line → b ≡ refusal number line → a ≡ b
@@ -33,11 +34,25 @@ module _ (t : List ℕ) where
   pub one-output : {a b : List ℕ} → a ≡ printed t → b ≡ printed t → a ≡ b
   one-output = one-reply
 
-  -- the number of bytes written into a buffer, and the buffer afterwards
+  -- where a list is solved
+  pub one-solved-answer : (records : ℕ) (lent : List ℕ) {a b : Answer}
+      → a ≡ solved t records lent → b ≡ solved t records lent → a ≡ b
+  one-solved-answer records lent = one-reply
+
+  pub one-list-answer : (lent : List ℕ) {a b : Answer}
+      → a ≡ list-answer t lent → b ≡ list-answer t lent → a ≡ b
+  one-list-answer lent = one-reply
+
+  pub one-solved-output : (lent : List ℕ) {a b : List ℕ}
+      → a ≡ printed-solved t lent → b ≡ printed-solved t lent → a ≡ b
+  one-solved-output lent = one-reply
+
+-- the number of bytes written of some lines into a buffer, and the buffer afterwards
+module _ (lines : List ℕ) where
   pub one-number-written : (buffer-length : ℕ) {a b : ℕ}
-      → a ≡ bytes-written t buffer-length → b ≡ bytes-written t buffer-length → a ≡ b
+      → a ≡ bytes-written lines buffer-length → b ≡ bytes-written lines buffer-length → a ≡ b
   one-number-written buffer-length = one-reply
 
   pub one-buffer : (buffer : List ℕ) {a b : List ℕ}
-      → a ≡ buffer-after t buffer → b ≡ buffer-after t buffer → a ≡ b
+      → a ≡ buffer-after lines buffer → b ≡ buffer-after lines buffer → a ≡ b
   one-buffer buffer = one-reply

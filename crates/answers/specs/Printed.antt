@@ -11,7 +11,7 @@ use Rattle.meaning.specs.Models.{Model}
 use Rattle.meaning.specs.Reach.{Instance}
 use Rattle.answers.specs.declared.Answer.{Answer}
 use Rattle.truth.specs.Bits.{bit}
-use Rattle.answers.specs.Answers.{answer, list, truth-in, the-model}
+use Rattle.answers.specs.Answers.{answer, list-answer, list, truth-in, the-model}
 
 -- "two bytes each, high byte first"
 abbrev pub two-bytes : ℕ → List ℕ
@@ -34,21 +34,29 @@ verdict-frame a = 0x05 ∷ a .verdict ∷ two-bytes (a .reached) ++ two-bytes (a
 abbrev pub refusal-frame : Answer → List ℕ
 refusal-frame a = 0x06 ∷ a .number ∷ two-bytes (a .line)
 
+-- the lines of an answer to a text
+unfoldable pub answer-lines : List ℕ → Answer → List ℕ
+answer-lines t a =
+    cond (eqb (a .number) 0)
+    (instance-lines (the-model t) (list t) ++ line-of (verdict-frame a))
+    (line-of (refusal-frame a))
+
 -- "with room 512"
 unfoldable pub printed : List ℕ → List ℕ
-printed t =
-    cond (eqb (answer t 512 .number) 0)
-    (instance-lines (the-model t) (list t) ++ line-of (verdict-frame (answer t 512)))
-    (line-of (refusal-frame (answer t 512)))
+printed t = answer-lines t (answer t 512)
 
--- the C entry: "A buffer under 7,693 bytes gives 0 and stays untouched"; "the bytes after them stay as they
+-- the same of a list that is solved (request 2026-05)
+unfoldable pub printed-solved : List ℕ → List ℕ → List ℕ
+printed-solved t lent = answer-lines t (list-answer t lent)
+
+-- the C entries: "A buffer under 7,693 bytes gives 0 and stays untouched"; "the bytes after them stay as they
 -- were"
 abbrev pub smallest-buffer : ℕ
 smallest-buffer = 7693
 
 unfoldable pub bytes-written : List ℕ → ℕ → ℕ
-bytes-written t buffer-length = cond (leb smallest-buffer buffer-length) (length (printed t)) 0
+bytes-written lines buffer-length = cond (leb smallest-buffer buffer-length) (length lines) 0
 
 unfoldable pub buffer-after : List ℕ → List ℕ → List ℕ
-buffer-after t buffer = take (bytes-written t (length buffer)) (printed t) ++ drop
-    (bytes-written t (length buffer)) buffer
+buffer-after lines buffer = take (bytes-written lines (length buffer)) lines ++ drop
+    (bytes-written lines (length buffer)) buffer

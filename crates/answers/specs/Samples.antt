@@ -29,7 +29,7 @@ use Rattle.truth.specs.Words.{from-digits, words, count-true}
 use Rattle.answers.specs.declared.Answer.{Answer}
 use Rattle.answers.specs.Answers.{list, truth-in, shown-values, refusal, verdict, judged, answer}
 use Rattle.answers.specs.Answers.{table-after, checked, table-after-check}
-use Rattle.answers.specs.Printed.{instance-lines, printed}
+use Rattle.answers.specs.Printed.{instance-lines, answer-lines, printed}
 
 -- the bytes of a quoted text: n of them from place p on; all of them
 unfoldable pub bytes-from : String → ℕ → ℕ → List ℕ
@@ -148,5 +148,5 @@ unfolding bytes-from bytes _and_ _or_ _⇒_ join over same mem all every some le
     lines-of all-digits line-refusal frames-from frames is-valid-head frames-with model-of equation-refusal
     start-refusal frame-refusal instances-judged start-judged finished frames-judged text-refusal from-digits
     words count-true list truth-in shown-values verdict judged answer table-after checked table-after-check
-    characters line-of instance-lines printed
+    characters line-of instance-lines answer-lines printed
 samples-computed = refl

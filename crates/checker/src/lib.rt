@@ -1,63 +1,19 @@
-// The public operations: what is lent, what comes back.
+// The public operations, and those for C: each a thin function over what the crates below do.
 ghost use mathlib.Core.Path.{_≡_};
-ghost use mathlib.Core.List.{map};
-ghost use Prim.Native.Nat.{_<_, _≤_};
-ghost use lib.ListN.{length, getD};
-ghost use Rattle.answers.specs.Answers.{refusal};
-ghost use Rattle.checker.specs.Records.{record-of};
-ghost use Rattle.checker.specs.Promises.{Read, Checked};
-ghost use Rattle.printing.specs.Promise.{Written};
-ghost use Rattle.checker.specs.Prepared.{blank, overwritten, prepared, read-from};
-ghost use Rattle.checker.specs.Prepared.{ReadPrepared, CheckPrepared};
-ghost use Rattle.checker.specs.Promises.{reply-word, TranslatesForC, ReplacesForC};
-use answers::Answer;
-use formulas::Equation;
-use reading::Model;
+ghost use Prim.Native.Nat.{_≤_};
+ghost use Rattle.printing.specs.Promise.{Written, SolvedWritten};
+ghost use Rattle.checker.specs.Promises.{reply-word, FindsForC, TranslatesForC, ReplacesForC};
+pub use answers::Answer;
+pub use lending::FindAnswer;
+pub use lending::ReadAnswer;
+pub use lending::Record;
+pub use lending::check;
+pub use lending::find;
+pub use lending::read;
+pub use lending::solve;
 pub use replacer::replace;
 pub use translator::translate;
 pub use writing::Writing;
-
-// An equation as reading lends it: absent ranges are 1; place is that of the body's first digit in the text,
-// length the body's bytes.
-pub struct Record {
-    pub sign: u8,
-    pub k: u8,
-    pub ranges: [u8; 4],
-    pub place: usize,
-    pub length: usize,
-}
-
-// The refusal that reading a text gives; both are 0 where it gives none.
-pub struct ReadAnswer {
-    pub number: u8,
-    pub line: usize,
-}
-
-// An answer, and the first `count` of `records` that are to be written with it.
-struct Prepared {
-    answer: Answer,
-    count: usize,
-    records: [Record; 8],
-}
-
-// Reads a text and fills the lent records.
-pub fn read(text: &[u8], records: &mut [Record]) -> ReadAnswer
-    ensures { λ r. ⌜ Read (now (text .entry)) (now (records .entry)) r (now (records .exit)) ⌝ }
-{
-    let p = prepare_read(text, records.len());
-    fill(records, p);
-    read_answer_of(p)
-}
-
-// Checks a text: fills the lent records, writes the reached instances into the lent table and answers.
-pub fn check(text: &[u8], records: &mut [Record], table: &mut [u32]) -> Answer
-    ensures { λ r. ⌜ Checked (now (text .entry)) (now (records .entry)) (now (table .entry)) r
-        (now (records .exit)) (now (table .exit)) ⌝ }
-{
-    let p = prepare_check(text, records.len(), table);
-    fill(records, p);
-    answer_of(p)
-}
 
 // For the image builder, in C: writes what the checking program prints for a text into the lent buffer and
 // gives the number of bytes written.
@@ -67,6 +23,33 @@ pub extern "C" fn devashtor_check(text: &[u8], out: &mut [u8]) -> usize
     ensures { λ r. ⌜ Written (now (text .entry)) (now (out .entry)) r (now (out .exit)) ⌝ }
 {
     printing::print_answer(text, out)
+}
+
+// For the image builder, in C: writes the reached instances of a text into the lent table and gives how many
+// they are, or, on a refusal, 2^63 + number * 2^32 + line.
+#[no_mangle]
+pub extern "C" fn devashtor_find(text: &[u8], table: &mut [u32]) -> u64
+    ensures { λ r. ⌜ FindsForC (now (text .entry)) (now (table .entry)) r (now (table .exit)) ⌝ }
+{
+    let e = engine::find(text, table);
+    let a = e.answer;
+    let found = Writing {
+        number: a.number,
+        line: a.line,
+        length: a.reached,
+    };
+    reply_word(found)
+}
+
+// For the image builder, in C: writes what the checking program prints for a text into the lent buffer, where
+// the lent list is that of its reached instances, else a refusal's line; gives the number of bytes written.
+// A buffer under 7,693 bytes gives 0 and stays.
+#[no_mangle]
+pub extern "C" fn devashtor_solve(text: &[u8], list: &[u32], out: &mut [u8]) -> usize
+    ensures { λ r. ⌜ SolvedWritten (now (text .entry)) (now (list .entry)) (now (out .entry)) r
+        (now (out .exit)) ⌝ }
+{
+    printing::print_solved(text, list, out)
 }
 
 // For the image builder, in C: writes the text of the model of a process and a formula into the lent buffer
@@ -104,128 +87,4 @@ fn reply_word(r: Writing) -> u64
     let number = r.number as u64;
     let line = r.line as u64;
     0x8000000000000000 + number * 0x100000000 + line
-}
-
-// Writes the records that are prepared: the one place where lent records are written.
-fn fill(records: &mut [Record], p: Prepared)
-    requires { ⌜ (p .count ≤ 8) × (p .count ≤ length (now records)) ⌝ }
-    ensures { λ _. ⌜ now (records .exit) ≡ overwritten (p .count) (p .records) (now (records .entry)) ⌝ }
-{
-    let mut i: usize = 0;
-    while i < p.count {
-        records[i] = nth_record(p, i);
-        i = i + 1;
-    }
-}
-
-fn nth_record(p: Prepared, i: usize) -> Record
-    requires { ⌜ i < 8 ⌝ }
-    ensures { λ r. ⌜ r ≡ getD (p .records) i blank ⌝ }
-{
-    let records = p.records;
-    records[i]
-}
-
-fn answer_of(p: Prepared) -> Answer
-    ensures { λ r. ⌜ r ≡ p .answer ⌝ }
-{
-    p.answer
-}
-
-fn read_answer_of(p: Prepared) -> ReadAnswer
-    ensures { λ r. ⌜ r ≡ read-from (p .answer) ⌝ }
-{
-    let a = p.answer;
-    ReadAnswer {
-        number: a.number,
-        line: a.line,
-    }
-}
-
-// Judges the length of the lent list first, then reads.
-fn prepare_read(text: &[u8], room: usize) -> Prepared
-    ensures { λ r. ⌜ ReadPrepared (now (text .entry)) room r ⌝ }
-{
-    if room < 8 {
-        return refuse_short_list();
-    }
-    let r = reading::read_model(text);
-    prepare(answers::refuse(r.number, r.line), r.model)
-}
-
-// Judges the length of the lent list first, then examines the text; the table is touched only there.
-fn prepare_check(text: &[u8], room: usize, table: &mut [u32]) -> Prepared
-    ensures { λ r. ⌜ CheckPrepared (now (text .entry)) room (now (table .entry)) r (now (table .exit)) ⌝ }
-{
-    if room < 8 {
-        return refuse_short_list();
-    }
-    let e = engine::examine(text, table);
-    prepare(e.answer, e.model)
-}
-
-// On a refusal no record is to be written.
-fn prepare(answer: Answer, model: Model) -> Prepared
-    ensures { λ r. ⌜ r ≡ prepared answer model ⌝ }
-{
-    let equations = model.equations;
-    let records = records_of(equations);
-    let mut count = model.count;
-    if answer.number != 0 {
-        count = 0;
-    }
-    Prepared {
-        answer,
-        count,
-        records,
-    }
-}
-
-fn refuse_short_list() -> Prepared
-    ensures { λ r. ⌜ (r .answer ≡ refusal 5 0) × (r .count ≡ 0) ⌝ }
-{
-    let none = no_record();
-    let answer = answers::refuse(5, 0);
-    Prepared {
-        answer,
-        count: 0,
-        records: [none; 8],
-    }
-}
-
-fn records_of(equations: [Equation; 8]) -> [Record; 8]
-    ensures { λ r. ⌜ r ≡ map record-of equations ⌝ }
-{
-    let none = no_record();
-    let mut records = [none; 8];
-    let mut i: usize = 0;
-    while i < 8 {
-        let r = record_of(equations[i]);
-        records[i] = r;
-        i += 1;
-    }
-    records
-}
-
-fn record_of(e: Equation) -> Record
-    ensures { λ r. ⌜ r ≡ record-of e ⌝ }
-{
-    let ranges = e.ranges;
-    Record {
-        sign: e.sign,
-        k: e.k,
-        ranges,
-        place: e.place,
-        length: e.length,
-    }
-}
-
-fn no_record() -> Record {
-    Record {
-        sign: 0,
-        k: 0,
-        ranges: [0; 4],
-        place: 0,
-        length: 0,
-    }
 }

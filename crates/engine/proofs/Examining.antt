@@ -3,15 +3,19 @@
 use Prim.Native.Nat.{ℕ, _≤_}
 use native.Mathlib.Omega.{arith}
 use mathlib.Core.Path.{_≡_, refl, sym, ap, ap₂, _∙_}
-use mathlib.Core.Bool.{Bool, true, false, cond}
+use mathlib.Core.Bool.{Bool, true, false, cond, not, _&&_}
 use mathlib.Core.List.{List, _++_, map}
-use lib.Dec.{ltb}
+use lib.Dec.{ltb, leb}
 use lib.ListN.{length, take, drop, getD, length-map, length-append}
 use lib.Seq.{take-at}
 use borrow.Author.Tests.{ltb-true, ltb-false, le-leb, lt-leb, eq-eqb, ne-eqb}
+use Rattle.meaning.specs.Logic.{_and_, never, eq→Is}
+use Rattle.meaning.specs.Solution.{same}
+use Rattle.meaning.specs.Members.{same-eq}
 use Rattle.meaning.specs.Reach.{Instance}
 use Rattle.meaning.specs.Words.{word}
 use Rattle.reading.specs.declared.Model.{Model}
+use Rattle.reading.specs.declared.Reading.{Reading}
 use Rattle.reading.specs.Contract.{start-from}
 use Rattle.reading.specs.Reading.{text-refusal}
 use Rattle.reading.specs.Records.{reading}
@@ -20,7 +24,7 @@ use Rattle.truth.specs.Words.{truth-words}
 use Rattle.truth.proofs.Words.{truth-words-bits, truth-words-count}
 use Rattle.answers.specs.declared.Answer.{Answer}
 use Rattle.answers.specs.Answers.{the-model, the-start, list, truth-in, shown-values, room-of, kept-words, table-after}
-use Rattle.answers.specs.Answers.{refusal, verdict, judged, answer}
+use Rattle.answers.specs.Answers.{refusal, verdict, judged, answer, is-found, list-answer}
 use Rattle.answers.specs.Demand1.{kept-all}
 use Rattle.answers.specs.Demand2.{start-first}
 use Rattle.preparing.specs.Promise.{Prepares}
@@ -29,8 +33,21 @@ use Rattle.finding.specs.Found.{Searchable, FoundIn, Finds}
 use Rattle.instances.specs.Graph.{graph-words}
 use Rattle.solving.specs.Promise.{Solvable, Solves}
 use Rattle.engine.specs.declared.Examined.{Examined}
-use Rattle.engine.specs.Examined.{judgement, Judged, ReadFrom, Examines}
+use Rattle.engine.specs.Examined.{judgement, number-found, whole, counted, Judged, ReadFrom, Examines}
+use Rattle.engine.specs.Examined as examined
 use Rattle.engine.proofs.ReadModel.{model-is, well-formed-model, start-is}
+
+with-true : (b : Bool) → b ≡ (b && true)
+with-true true = refl
+with-true false = refl
+
+with-false : (b : Bool) → (b && false) ≡ false
+with-false true = refl
+with-false false = refl
+
+all-there : (over like : Bool) → (not over && like) ≡ true → over ≡ false
+all-there true like e = never (eq→Is e)
+all-there false like e = refl
 
 -- what was found in an accepted text: m is the model that was read, `prepared` are its bodies, prepared, `entry` and `exit`
 -- are the table before and after, and `graph` is what was drawn on empty rows
@@ -39,8 +56,6 @@ pub record Searched (t : List ℕ) (m : Model) (bodies prepared entry exit rows 
     pub read : ReadFrom t m bodies
     pub prepares : Prepares bodies (m .equations) prepared
     pub named : w ≡ word (start-from m)
-    pub sized : length rows ≡ graph-words
-    pub empty : bit-of rows ≡ nowhere
     pub finds : Finds prepared (m .equations) w (room-of (length entry)) entry exit rows graph r
 
 module _ {t : List ℕ} {m : Model} {bodies prepared entry exit rows graph : List ℕ} {w : ℕ} {r : Found}
@@ -71,20 +86,26 @@ module _ {t : List ℕ} {m : Model} {bodies prepared entry exit rows graph : Lis
   unfolding list
   kept = found .table
 
-  whole : exit ≡ kept-words t room ++ drop (length (kept-words t room)) entry
+  exit-is : exit ≡ kept-words t room ++ drop (length (kept-words t room)) entry
   unfolding list
-  whole = kept ∙ ap (λ (n : ℕ). take room ws ++ drop n entry) (found .count)
+  exit-is = kept ∙ ap (λ (n : ℕ). take room ws ++ drop n entry) (found .count)
 
   over : r .over ≡ ltb room (length (list t))
   unfolding list
   over = found .over
 
+  -- the table has as many words
+  pub inside : r .count ≤ length exit
+  unfolding list
+  inside = omega (arith, ap length kept, length-append (take room ws) (drop (r .count) entry), found .count)
+
   -- more were reached than there is room
-  pub too-many : r .over ≡ true → {a : Answer} → a ≡ refusal 9 0 → Judged t entry exit a
+  nine : r .over ≡ true → judged t room ≡ refusal 9 0
   unfolding judged
-  too-many h e =
-      let more = ltb-true room (length (list t)) (sym over ∙ h) in
-      record { result = e ∙ rw (lt-leb (length (list t)) room more) refl; table = whole }
+  nine h = rw (lt-leb (length (list t)) room (ltb-true room (length (list t)) (sym over ∙ h))) refl
+
+  pub too-many : (told : Answer → Answer) → r .over ≡ true → {a : Answer} → a ≡ told (refusal 9 0) → Judged told t entry exit a
+  too-many told h e = record { result = e ∙ sym (ap told (nine h)); table = exit-is }
 
   module _ (h : r .over ≡ false) where
     fits : length (list t) ≤ room
@@ -97,63 +118,141 @@ module _ {t : List ℕ} {m : Model} {bodies prepared entry exit rows graph : Lis
     unfolding list
     count-is = found .count ∙ ap length all-kept ∙ length-map (list t) word
 
-    pub inside : r .count ≤ length exit
-    unfolding list
-    inside = omega (arith, ap length kept, length-append (take room ws) (drop (r .count) entry), found .count)
-
     words-are : take (r .count) exit ≡ ws
     words-are = ap (take (r .count)) (kept ∙ ap (λ (l : List ℕ). l ++ drop (r .count) entry) all-kept)
         ∙ take-at ws (drop (r .count) entry) (r .count) (length-map (list t) word ∙ sym count-is)
 
-    solvable : Solvable prepared (reading t .model .equations) (reading t .model .count) (take (r .count) exit)
-        graph (the-start t)
-    unfolding list
-    solvable = record {
-      model = well-formed-model t (s .read .accepted) prepared prepares;
-      words = rw (model-is t (s .read .accepted) prepared prepares) words-are;
-      drawn = here .draws (reading t .model .count) (the-start t) searchable h (s .sized) (s .empty);
-    }
-
-    short : length (shown-values t) ≤ 512
-    unfolding shown-values
-    short = omega (arith, length-map (list t) (truth-in (the-model t)), fits)
-
-    first-value : getD (shown-values t) 0 false ≡ truth-in (the-model t) (the-start t)
-    unfolding shown-values
-    first-value =
-        ap (λ (l : List Instance). getD (map (truth-in (the-model t)) l) 0 false) (start-first t (s .read .accepted) .1)
-
-    verdict-is : judgement (length (list t)) (truth-words (shown-values t)) ≡ verdict t
-    unfolding verdict
-    verdict-is = rw (truth-words-count (shown-values t) short, truth-words-bits (shown-values t) short, first-value) refl
-
-    truth-is : (truth : List ℕ) → Solves prepared (m .equations) (m .count) (take (r .count) exit) graph truth
-        → truth ≡ truth-words (shown-values t)
-    unfolding list shown-values
-    truth-is truth solves = rw (model-is t (s .read .accepted) prepared prepares) at
-        (rw (s .read .records-same) at solves (the-start t) solvable)
-
-    pub judged-so : (truth : List ℕ) → Solves prepared (m .equations) (m .count) (take (r .count) exit) graph truth
-        → {a : Answer} → a ≡ judgement (r .count) truth → Judged t entry exit a
+    verdict-due : judged t room ≡ verdict t
     unfolding judged
-    judged-so truth solves g = record {
-      result = g ∙ ap₂ judgement count-is (truth-is truth solves) ∙ verdict-is
-          ∙ sym (ap (λ (b : Bool). cond b (verdict t) (refusal 9 0)) (le-leb (length (list t)) room fits));
-      table = whole;
+    verdict-due = rw (le-leb (length (list t)) room fits) refl
+
+    pub counted-so : {a : Answer} → a ≡ number-found (r .count) → Judged counted t entry exit a
+    unfolding verdict
+    counted-so e = record { result = e ∙ rw (verdict-due, count-is) refl; table = exit-is }
+
+    -- drawn on empty rows
+    module _ (sized : length rows ≡ graph-words) (empty : bit-of rows ≡ nowhere) where
+      solvable : Solvable prepared (reading t .model .equations) (reading t .model .count) (take (r .count) exit)
+          graph (the-start t)
+      unfolding list
+      solvable = record {
+        model = well-formed-model t (s .read .accepted) prepared prepares;
+        words = rw (model-is t (s .read .accepted) prepared prepares) words-are;
+        drawn = here .draws (reading t .model .count) (the-start t) searchable h sized empty;
+      }
+
+      short : length (shown-values t) ≤ 512
+      unfolding shown-values
+      short = omega (arith, length-map (list t) (truth-in (the-model t)), fits)
+
+      first-value : getD (shown-values t) 0 false ≡ truth-in (the-model t) (the-start t)
+      unfolding shown-values
+      first-value =
+          ap (λ (l : List Instance). getD (map (truth-in (the-model t)) l) 0 false) (start-first t (s .read .accepted) .1)
+
+      verdict-is : judgement (length (list t)) (truth-words (shown-values t)) ≡ verdict t
+      unfolding verdict
+      verdict-is = rw (truth-words-count (shown-values t) short, truth-words-bits (shown-values t) short, first-value) refl
+
+      truth-is : (truth : List ℕ) → Solves prepared (m .equations) (m .count) (take (r .count) exit) graph truth
+          → truth ≡ truth-words (shown-values t)
+      unfolding list shown-values
+      truth-is truth solves = rw (model-is t (s .read .accepted) prepared prepares) at
+          (rw (s .read .records-same) at solves (the-start t) solvable)
+
+      -- what is judged of the solution is the verdict
+      pub verdict-so : {truth : List ℕ} → Solves prepared (m .equations) (m .count) (take (r .count) exit) graph truth
+          → {a : Answer} → a ≡ judgement (r .count) truth → a ≡ verdict t
+      verdict-so {truth} solves g = g ∙ ap₂ judgement count-is (truth-is truth solves) ∙ verdict-is
+
+      pub judged-so : {truth : List ℕ} → Solves prepared (m .equations) (m .count) (take (r .count) exit) graph truth
+          → {a : Answer} → a ≡ judgement (r .count) truth → Judged whole t entry exit a
+      judged-so solves g = record { result = verdict-so solves g ∙ sym verdict-due; table = exit-is }
+
+  -- a lent list is the reached one where all are found, with room for 512, and it has the same words
+  pub compared : length entry ≡ 512 → (lent : List ℕ)
+      → is-found t lent ≡ (not (r .over) && same lent (take (r .count) exit))
+  unfolding is-found _and_
+  compared long lent = by-room (r .over) refl
+    where
+      by-words : (most : Bool) → leb (length ws) 512 ≡ most → (b : Bool) → same lent ws ≡ b
+          → (b and leb (length lent) 512) ≡ (most && b)
+      by-words most e true w = rw (same-eq lent ws (eq→Is w), e) (with-true most)
+      by-words most e false w = sym (with-false most)
+
+      by-room : (b : Bool) → r .over ≡ b
+          → (same lent ws and leb (length lent) 512) ≡ (not b && same lent (take (r .count) exit))
+      by-room true e =
+          let more = ltb-true room (length (list t)) (sym over ∙ e) in
+          by-words false (lt-leb (length ws) 512 (omega (arith, length-map (list t) word, long))) (same lent ws) refl
+      by-room false e = rw (words-are e)
+          (by-words true (le-leb (length ws) 512 (omega (arith, length-map (list t) word, fits e))) (same lent ws) refl)
+
+  -- what is answered to a lent list, where `match` tells whether all are found and it has the same words
+  module _ (long : length entry ≡ 512) (lent : List ℕ) {like match : Bool} (l : like ≡ same lent (take (r .count) exit))
+      (e : match ≡ (not (r .over) && like)) where
+    found-is : is-found t lent ≡ match
+    found-is = rw (compared long lent, ← l) (sym e)
+
+    pub refused-so : match ≡ false → {a : Answer} → a ≡ refusal 11 0 → a ≡ cond (is-found t lent) (verdict t) (refusal 11 0)
+    refused-so unlike g = rw (found-is, unlike) g
+
+    pub solved-so : match ≡ true → length rows ≡ graph-words → bit-of rows ≡ nowhere → {truth : List ℕ}
+        → Solves prepared (m .equations) (m .count) (take (r .count) exit) graph truth
+        → {a : Answer} → a ≡ judgement (r .count) truth → a ≡ cond (is-found t lent) (verdict t) (refusal 11 0)
+    solved-so all sized empty solves g =
+        rw (found-is, all) (verdict-so (all-there (r .over) like (sym e ∙ all)) sized empty solves g)
+
+-- ---- the whole text: rd is what was read of it
+module _ (t : List ℕ) {rd : Reading} (e : rd ≡ reading t) where
+  -- it is not refused
+  pub from-text : rd .number ≡ 0 → ReadFrom t (rd .model) (rd .bodies)
+  unfolding reading
+  from-text zero = record {
+    accepted = sym (ap (λ (r : Reading). r .number) e) ∙ zero;
+    records-same = ap (λ (r : Reading). r .model) e;
+    bodies-same = ap (λ (r : Reading). r .bodies) e;
+  }
+
+  -- it is
+  module _ (n : rd .number ≡ 0 → ⊥) {a : Answer} (refused : a ≡ refusal (rd .number) (rd .line)) where
+    not-zero : text-refusal t .number ≡ 0 → ⊥
+    unfolding reading
+    not-zero z = n (ap (λ (r : Reading). r .number) e ∙ z)
+
+    as-text : a ≡ refusal (text-refusal t .number) (text-refusal t .line)
+    unfolding reading
+    as-text = refused ∙ ap (λ (r : Reading). refusal (r .number) (r .line)) e
+
+    pub examined-refused : {entry : List ℕ} → Examines whole t entry (record { answer = a; model = rd .model }) entry
+    unfolding answer table-after
+    examined-refused = record {
+      answered = as-text ∙ rw (ne-eqb _ _ not-zero) refl;
+      read = ap (λ (r : Reading). r .model) e;
+      listed = rw (ne-eqb _ _ not-zero) refl;
     }
 
--- ---- the whole text
-pub examined-refused : {t entry : List ℕ} {e : Examined} → (text-refusal t .number ≡ 0 → ⊥)
-    → e .answer ≡ refusal (text-refusal t .number) (text-refusal t .line) → e .model ≡ reading t .model → Examines t entry e entry
-unfolding answer table-after
-examined-refused h a m =
-    record { answered = a ∙ rw (ne-eqb _ _ h) refl; read = m; listed = rw (ne-eqb _ _ h) refl }
+    -- a refusal is told by number and line alone
+    pub counted-refused : {entry : List ℕ} → Examines counted t entry (record { answer = a; model = rd .model }) entry
+    counted-refused {entry} =
+        let x = examined-refused {entry = entry} in
+        record { answered = as-text ∙ sym (ap counted as-text) ∙ ap counted (x .answered); read = x .read; listed = x .listed }
 
-pub examined-judged : {t bodies entry exit : List ℕ} {e : Examined} → ReadFrom t (e .model) bodies
-    → Judged t entry exit (e .answer) → Examines t entry e exit
-unfolding answer table-after
-examined-judged f j = record {
-  answered = j .result ∙ rw (eq-eqb _ _ (f .accepted)) refl;
-  read = f .records-same;
-  listed = j .table ∙ rw (eq-eqb _ _ (f .accepted)) refl;
-}
+    pub solved-refused : {lent : List ℕ} → examined.Solves t lent (record { answer = a; model = rd .model })
+    unfolding list-answer
+    solved-refused =
+        record { answered = as-text ∙ rw (ne-eqb _ _ not-zero) refl; read = ap (λ (r : Reading). r .model) e }
+
+module _ {t bodies : List ℕ} {e : Examined} (f : ReadFrom t (e .model) bodies) where
+  pub examined-judged : {told : Answer → Answer} {entry exit : List ℕ} → Judged told t entry exit (e .answer)
+      → Examines told t entry e exit
+  unfolding answer table-after
+  examined-judged j = record {
+    answered = j .result ∙ rw (eq-eqb _ _ (f .accepted)) refl;
+    read = f .records-same;
+    listed = j .table ∙ rw (eq-eqb _ _ (f .accepted)) refl;
+  }
+
+  pub examined-solved : {lent : List ℕ} → e .answer ≡ cond (is-found t lent) (verdict t) (refusal 11 0) → examined.Solves t lent e
+  unfolding list-answer
+  examined-solved j = record { answered = j ∙ rw (eq-eqb _ _ (f .accepted)) refl; read = f .records-same }

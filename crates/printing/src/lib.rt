@@ -1,9 +1,10 @@
-// The printed lines: what the checking program prints for a text, written into a lent buffer.
+// The printed lines: what the checking program prints for a text, written into a lent buffer; and the same
+// for a list that is solved.
 ghost use mathlib.Core.Path.{_≡_};
 ghost use Prim.Native.Nat.{_+_, _*_, _/_, _%_, _≤_, _<_};
 ghost use lib.ListN.{length};
 ghost use Rattle.answers.specs.Printed.{verdict-frame, refusal-frame};
-ghost use Rattle.printing.specs.Promise.{Written};
+ghost use Rattle.printing.specs.Promise.{Written, SolvedWritten};
 ghost use Rattle.frames.specs.Frames.{line-of};
 ghost use Rattle.frames.specs.PutLine.{Puts};
 ghost use Rattle.printing.specs.Lines.{bytes-of, parameters-of, word-frame, word-lines};
@@ -29,6 +30,19 @@ pub fn print_answer(text: &[u8], out: &mut [u8]) -> usize
     let mut table = [0u32; 512];
     let e = engine::examine(text, &mut table);
     put_answer(out, &table, e)
+}
+
+// Writes the lines of a list that is solved and gives the number of bytes written.
+pub fn print_solved(text: &[u8], list: &[u32], out: &mut [u8]) -> usize
+    ensures { λ r. ⌜ SolvedWritten (now (text .entry)) (now (list .entry)) (now (out .entry)) r
+        (now (out .exit)) ⌝ }
+{
+    let room = out.len();
+    if room < 7693 {
+        return 0;
+    }
+    let e = engine::solve(text, list);
+    put_answer(out, list, e)
 }
 
 // Writes a whole answer from the buffer's first byte on, and gives the number of bytes written.

@@ -41,7 +41,7 @@ bool texts_has_mixed_byte(const uint8_t *text, size_t length);
 
 /* The end of AREA_MOST bytes of memory, with forbidden memory behind it: what ends there cannot be read or
    written past its end. */
-enum { AREA_MOST = 128 * 1024 };
+enum { AREA_MOST = 320 * 1024 };
 uint8_t *texts_fenced_end(void);
 
 /* The bytes of a file, which are to be freed; ends the run where there is none. */

@@ -16,9 +16,9 @@ void words_fill(uint8_t *one, uint8_t *other, size_t n)
 static void print_word(const char *caller, const char *whose, uint64_t word)
 {
     if (DEVASHTOR_REFUSED(word))
-        printf("%s: %s: refused by %u, line %u\n", caller, whose, DEVASHTOR_NUMBER(word), DEVASHTOR_LINE(word));
+        printf("%s: %s refuses by %u, line %u\n", caller, whose, DEVASHTOR_NUMBER(word), DEVASHTOR_LINE(word));
     else
-        printf("%s: %s: %llu bytes\n", caller, whose, (unsigned long long)word);
+        printf("%s: %s gives %llu\n", caller, whose, (unsigned long long)word);
 }
 
 bool words_same(const char *caller, uint64_t word, uint64_t due)

@@ -1,15 +1,18 @@
 //! Calls the checker's archive from Rust with thousands of texts and compares every byte with a
-//! plain checker, and with a plain writer that replaces one right side; they share no code with it. A text
-//! with capital digits must have the answer of the same text in small letters. The first difference ends the
-//! run with status 1.
+//! plain checker, with plain finding and solving apart from each other, and with a plain writer that replaces one
+//! right side; they share no code with it. A text with capital digits must have the answer of the same text in small
+//! letters. The first difference ends the run with status 1.
 //!
 //!     caller [HOW MANY [SEED]]
 
 #[path = "../../rust/reference.rs"]
 mod reference;
+#[path = "apart.rs"]
+mod apart;
 #[path = "texts.rs"]
 mod texts;
 
+use apart::Apart;
 use std::process::exit;
 use texts::Texts;
 
@@ -151,6 +154,7 @@ fn main() {
     let mut texts = Texts::new(arguments.next().unwrap_or(1));
     let (mut seen, mut reached, mut calls) = ([0u64; 11], 0, 0);
     let (mut replaced, mut replacements): (Refusals, u64) = ([[0; 20]; 2], 0);
+    let mut apart = Apart::new();
     for n in 0..wanted {
         let text = texts.next();
         let expected = reference::print(&text);
@@ -172,6 +176,10 @@ fn main() {
             calls += 1;
         }
         replacements += try_replace(&mut texts, &text, &mut replaced);
+        apart.try_text(&mut texts, &text, &expected);
+        if n % 50 == 0 {
+            apart.try_large(&mut texts);
+        }
     }
     print!("caller.rs: {wanted} texts, {calls} calls, no difference: {} hold, {} fail, refused", seen[10], seen[0]);
     (1..10).for_each(|number| print!(" {number}:{}", seen[number]));
@@ -182,9 +190,10 @@ fn main() {
     print!("; then by");
     [19, 1, 3, 6, 7, 10].iter().for_each(|number| print!(" {number}:{}", new[*number]));
     println!();
-    let missing = old[1..9].contains(&0) || [0, 19, 1, 3, 6, 7, 10].iter().any(|number| new[*number] == 0);
+    let mut missing = old[1..9].contains(&0) || [0, 19, 1, 3, 6, 7, 10].iter().any(|number| new[*number] == 0);
+    missing |= apart.summary();
     if wanted >= 4_000 && (seen.contains(&0) || missing) {
-        println!("caller.rs: an answer of some kind is missing, so this run is too weak");
+        println!("caller.rs: an answer, a table or a list of some kind is missing, so this run is too weak");
         exit(1);
     }
 }

@@ -2,7 +2,8 @@
 -- A short buffer stays, and else what is printed is the text's answer, which fits.
 use mathlib.Core.Path.{refl}
 use native.Mathlib.Omega.{arith}
-use Rattle.printing.proofs.Answered.{printable, printed-is, buffer-stays, buffer-written}
+use Rattle.answers.specs.Printed.{printed}
+use Rattle.printing.proofs.Answered.{told-checked, printable, printed-is, printed-short, buffer-stays, buffer-written}
 use borrow.Author.Needs.{needs}
 use Rattle.printing.proofs.print_answer.Statement.{statement}
 use Rattle.printing.proofs.print_answer.Tie as tie
@@ -10,14 +11,17 @@ use Rattle.printing.proofs.print_answer.Tie as tie
 asked : tie.Need-put-answer-requires
 asked c κs =
     let examined = c .before .before .before in
-    (printable (examined .examine .ensures) refl, omega (arith, examined .before .before .if1 .left))
+    (printable (told-checked (examined .examine .ensures) refl), omega (arith, examined .before .before .if1 .left))
 
 answered : tie.Need-returns-2
+unfolding printed
 answered c =
     let put = c .before .before in
     let examined = put .before .before .before .before in
-    let is = printed-is (examined .examine .ensures) refl in
-    buffer-written (omega (arith, examined .before .before .if1 .left)) (rw is at (put .put-answer .ensures))
+    let x = examined .examine .ensures in
+    let is = printed-is (told-checked x refl) in
+    buffer-written (printed-short _) (omega (arith, examined .before .before .if1 .left))
+    (rw (is, x .answered) at (put .put-answer .ensures))
 
 pub print-answer-spec : {M : Type 1} → statement M
 print-answer-spec =

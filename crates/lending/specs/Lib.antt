@@ -1,0 +1,6 @@
+pub mod Records
+pub mod Promises
+pub mod Prepared
+pub mod Lent
+pub mod Apart
+pub mod Letters
