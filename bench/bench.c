@@ -1,14 +1,16 @@
 /* How long a whole check takes, a translation, and the replacing of a right side, beside a plain checker, a plain
-   translator and a plain writer in the same run.
+   translator and a plain writer in the same run; and how long finding and solving take beside the whole check.
 
        bench                          a line for each family of models: the instances reached, how many right
                                       sides the plain checker evaluates, the time of both, and their ratio
        bench long                     the same for the families of models that take many seconds
        bench translate                the same for the families of processes, with the number of the refusal
        bench replace                  the same for the families in which a right side is replaced
+       bench apart                    for each family of models the time of a check, of finding and of solving what
+                                      was found, and the ratios of the last two to the first
        bench FAMILY                   the line of one family
-       bench FAMILY archive [TIMES]   one run by the archive (or `plain`), or as many as said, to count its
-                                      instructions */
+       bench FAMILY archive [TIMES]   one run by the archive (or `plain`; or of a model `find`, `solve`), or as many
+                                      as said, to count its instructions */
 #define _POSIX_C_SOURCE 200809L
 #include "devashtor.h"
 
@@ -57,6 +59,19 @@ __attribute__((noinline)) static uint64_t replace_by_archive(const uint8_t *text
 __attribute__((noinline)) static uint64_t replace_by_plain(const uint8_t *text, size_t length)
 {
     return plain_replace(text, length, equation, side, side_length, by_plain, sizeof by_plain);
+}
+
+static uint32_t list[DEVASHTOR_LIST];
+static size_t words; /* how many were found */
+
+__attribute__((noinline)) static uint64_t list_by_find(const uint8_t *text, size_t length)
+{
+    return devashtor_find(text, length, list, DEVASHTOR_LIST);
+}
+
+__attribute__((noinline)) static uint64_t lines_by_solve(const uint8_t *text, size_t length)
+{
+    return devashtor_solve(text, length, list, words, by_archive, sizeof by_archive);
 }
 
 typedef uint64_t (*way)(const uint8_t *, size_t);
@@ -160,20 +175,47 @@ static bool measure(const struct family *f)
     return true;
 }
 
+static bool measure_apart(const struct family *f)
+{
+    uint64_t given, found, answered;
+    double check, find, solve;
+    prepare(f);
+    check = time_of(check_by_archive, &given);
+    memcpy(by_plain, by_archive, sizeof by_plain);
+    find = time_of(list_by_find, &found);
+    words = (size_t)found;
+    memset(by_archive, 0, given);
+    solve = time_of(lines_by_solve, &answered);
+    if (found != f->due || answered != given || memcmp(by_archive, by_plain, sizeof by_plain) != 0) {
+        printf("%s: finding and solving answer otherwise\n", f->name);
+        return false;
+    }
+    printf("%-16s %8u %14.6f %14.6f %14.6f %8.2f %8.2f\n", f->name, f->due, 1e3 * check, 1e3 * find, 1e3 * solve,
+           find / check, solve / check);
+    fflush(stdout);
+    return true;
+}
+
 /* All families of this kind; with the models those whose model comes from a translation. */
-static bool measure_all(enum kind kind)
+static bool measure_all(enum kind kind, bool (*one)(const struct family *))
 {
     for (unsigned i = 0; i < families_count; i++)
-        if ((families[i].kind == TRANSLATED ? MODEL : families[i].kind) == kind && !measure(&families[i]))
+        if ((families[i].kind == TRANSLATED ? MODEL : families[i].kind) == kind && !one(&families[i]))
             return false;
     return true;
 }
 
-static bool run_one(const struct family *f, bool plain, unsigned long times)
+static bool run_one(const struct family *f, const char *by, unsigned long times)
 {
+    way one = strcmp(by, "find") == 0 ? list_by_find : lines_by_solve;
     uint64_t given = 0;
-    for (prepare(f); times > 0; times--)
-        given = which(f, plain)(text, length);
+    if (strcmp(by, "archive") == 0 || strcmp(by, "plain") == 0)
+        one = which(f, strcmp(by, "plain") == 0);
+    prepare(f);
+    if (one == lines_by_solve)
+        words = (size_t)devashtor_find(text, length, list, DEVASHTOR_LIST);
+    for (; times > 0; times--)
+        given = one(text, length);
     return given != 0;
 }
 
@@ -183,18 +225,20 @@ int main(int arguments, char **argument)
     unsigned long times = arguments > 3 ? strtoul(argument[3], NULL, 10) : 1;
     bool done;
     if (arguments == 1)
-        done = measure_all(MODEL);
+        done = measure_all(MODEL, measure);
     else if (arguments == 2 && strcmp(argument[1], "long") == 0)
-        done = measure_all(LONG);
+        done = measure_all(LONG, measure);
     else if (arguments == 2 && strcmp(argument[1], "translate") == 0)
-        done = measure_all(PROCESS);
+        done = measure_all(PROCESS, measure);
     else if (arguments == 2 && strcmp(argument[1], "replace") == 0)
-        done = measure_all(REPLACED);
+        done = measure_all(REPLACED, measure);
+    else if (arguments == 2 && strcmp(argument[1], "apart") == 0)
+        done = measure_all(MODEL, measure_apart);
     else if (f == NULL)
         return 2;
     else if (arguments == 2)
         done = measure(f);
     else
-        done = run_one(f, strcmp(argument[2], "plain") == 0, times);
+        done = run_one(f, argument[2], times);
     return done ? 0 : 1;
 }

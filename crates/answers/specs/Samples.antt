@@ -1,11 +1,13 @@
 -- The sample models of document 01 that are marked P, from their texts: one table under one theorem.
 -- Computed from the definitions alone. Nothing of the laws is used, so a slip in a definition shows here.
-use Prim.Native.Nat.{ℕ, zero, suc, _+_}
+use Prim.Native.Nat.{ℕ, zero, suc, _+_, _-_}
 use Prim.Native.Char.{code}
 use Prim.Native.String.{String, len, charAt}
 use mathlib.Core.Path.{_≡_, refl}
+use mathlib.Core.Bool.{cond}
 use mathlib.Core.List.{List, [], _∷_, _++_, map}
-use lib.ListN.{length, drop, replicate}
+use lib.Dec.{eqb, ltb}
+use lib.ListN.{length, take, drop, replicate}
 use Rattle.meaning.specs.Logic.{_and_, _or_, _⇒_, join, over}
 use Rattle.meaning.specs.Solution.{same, mem, all, every, some, least, greatest, solution}
 use Rattle.meaning.specs.Formulas.{sum, difference, value, holds}
@@ -29,6 +31,7 @@ use Rattle.truth.specs.Words.{from-digits, words, count-true}
 use Rattle.answers.specs.declared.Answer.{Answer}
 use Rattle.answers.specs.Answers.{list, truth-in, shown-values, refusal, verdict, judged, answer}
 use Rattle.answers.specs.Answers.{table-after, checked, table-after-check}
+use Rattle.answers.specs.Answers.{is-found, list-answer, solved}
 use Rattle.answers.specs.Printed.{instance-lines, answer-lines, printed}
 
 -- the bytes of a quoted text: n of them from place p on; all of them
@@ -124,22 +127,47 @@ samples =
 abbrev pub lent : ℕ → List ℕ
 lent n = replicate n 0xffff_ffff
 
--- the answer where eight records and so many words are lent, and what the table then holds
-abbrev pub given : List ℕ → Lending → Answer × List ℕ
-given t l = (checked t 8 (l .words-lent), table-after-check t 8 (lent (l .words-lent)))
+-- lists that are not that of the words ws: with no word, with the first or the last word left out, with one
+-- word more, with the first word another
+abbrev pub others : List ℕ → List (List ℕ)
+others ws = [] ∷ drop 1 ws ∷ take (length ws - 1) ws ∷ (ws ++ (0 ∷ [])) ∷ (0xffff ∷ drop 1 ws) ∷ []
 
--- the answer of document 01; its words, and the rest of the table untouched
-abbrev pub promised : Lending → Answer × List ℕ
-promised l = (l .answer, l .kept ++ drop (length (l .kept)) (lent (l .words-lent)))
+-- what solving answers, where eight records are lent, to the words that were kept, to the same with the first
+-- one behind the others, and to each of those lists
+abbrev pub solving : List ℕ → List ℕ → List Answer
+solving t ws = map (solved t 8) (ws ∷ (drop 1 ws ++ take 1 ws) ∷ others ws)
 
-abbrev pub outcome : Sample → List ℕ × List (Answer × List ℕ)
+-- 11 for the words that are kept on 9, and for what is not the list; a text that is refused is refused first
+abbrev pub not-the-list : Answer → Answer
+not-the-list a = cond (eqb (a .number) 0 or eqb (a .number) 9) (refusal 11 0) a
+
+abbrev pub solving-due : Answer → List ℕ → List Answer
+solving-due a ws =
+    cond (eqb (a .number) 9) (refusal 11 0) a ∷ cond (ltb 1 (length ws)) (not-the-list a) a
+    ∷ replicate 5 (not-the-list a)
+
+-- the answer where eight records and so many words are lent, what the table then holds, and solving
+abbrev pub given : List ℕ → Lending → Answer × (List ℕ × List Answer)
+given t l = (
+  checked t 8 (l .words-lent),
+  (table-after-check t 8 (lent (l .words-lent)), solving t (l .kept)),
+)
+
+-- the answer of document 01; its words, and the rest of the table untouched; what request 2026-05 says
+abbrev pub promised : Lending → Answer × (List ℕ × List Answer)
+promised l = (
+  l .answer,
+  (l .kept ++ drop (length (l .kept)) (lent (l .words-lent)), solving-due (l .answer) (l .kept)),
+)
+
+abbrev pub outcome : Sample → List ℕ × List (Answer × (List ℕ × List Answer))
 outcome s = (printed (bytes (s .text)), map (given (bytes (s .text))) (s .lendings))
 
-abbrev pub expected : Sample → List ℕ × List (Answer × List ℕ)
+abbrev pub expected : Sample → List ℕ × List (Answer × (List ℕ × List Answer))
 expected s = (bytes (s .output), map promised (s .lendings))
 
 -- every sample marked P has the output, the answer and the table that document 01 gives, and those of
--- requests 2026-02 and 2026-04 what these give
+-- requests 2026-02 and 2026-04 what these give; solving answers as request 2026-05 says
 pub samples-computed : map outcome samples ≡ map expected samples
 unfolding bytes-from bytes _and_ _or_ _⇒_ join over same mem all every some least greatest solution sum
     difference value holds spread in-range system meaning join-simplified simplified leaves instances
@@ -148,5 +176,5 @@ unfolding bytes-from bytes _and_ _or_ _⇒_ join over same mem all every some le
     lines-of all-digits line-refusal frames-from frames is-valid-head frames-with model-of equation-refusal
     start-refusal frame-refusal instances-judged start-judged finished frames-judged text-refusal from-digits
     words count-true list truth-in shown-values verdict judged answer table-after checked table-after-check
-    characters line-of instance-lines answer-lines printed
+    characters line-of instance-lines answer-lines printed is-found list-answer solved
 samples-computed = refl

@@ -33,7 +33,7 @@ use Rattle.finding.specs.Found.{Searchable, FoundIn, Finds}
 use Rattle.instances.specs.Graph.{graph-words}
 use Rattle.solving.specs.Promise.{Solvable, Solves}
 use Rattle.engine.specs.declared.Examined.{Examined}
-use Rattle.engine.specs.Examined.{judgement, number-found, whole, counted, Judged, ReadFrom, Examines}
+use Rattle.engine.specs.Examined.{judgement, number-found, whole, counted, Judged, Answered, ReadFrom, Examines}
 use Rattle.engine.specs.Examined as examined
 use Rattle.engine.proofs.ReadModel.{model-is, well-formed-model, start-is}
 
@@ -48,6 +48,10 @@ with-false false = refl
 all-there : (over like : Bool) → (not over && like) ≡ true → over ≡ false
 all-there true like e = never (eq→Is e)
 all-there false like e = refl
+
+over-so : (over : Bool) → (not over && true) ≡ false → over ≡ true
+over-so true e = refl
+over-so false e = never (eq→Is (sym e))
 
 -- what was found in an accepted text: m is the model that was read, `prepared` are its bodies, prepared, `entry` and `exit`
 -- are the table before and after, and `graph` is what was drawn on empty rows
@@ -188,20 +192,37 @@ module _ {t : List ℕ} {m : Model} {bodies prepared entry exit rows graph : Lis
       by-room false e = rw (words-are e)
           (by-words true (le-leb (length ws) 512 (omega (arith, length-map (list t) word, fits e))) (same lent ws) refl)
 
-  -- what is answered to a lent list, where `match` tells whether all are found and it has the same words
-  module _ (long : length entry ≡ 512) (lent : List ℕ) {like match : Bool} (l : like ≡ same lent (take (r .count) exit))
-      (e : match ≡ (not (r .over) && like)) where
-    found-is : is-found t lent ≡ match
-    found-is = rw (compared long lent, ← l) (sym e)
+  -- `like` tells whether a lent list has the words found, `right` that it has them if it is lent, and `all` that all were
+  -- found besides
+  module _ (list : List ℕ) {lent like right all : Bool} (l : like ≡ same list (take (r .count) exit))
+      (i : right ≡ cond lent like true) (e : all ≡ (not (r .over) && right)) where
+    found-is : lent ≡ true → length entry ≡ 512 → is-found t list ≡ all
+    found-is given long = rw (compared long list, ← l) (sym (rw (i, given) at e))
 
-    pub refused-so : match ≡ false → {a : Answer} → a ≡ refusal 11 0 → a ≡ cond (is-found t lent) (verdict t) (refusal 11 0)
-    refused-so unlike g = rw (found-is, unlike) g
-
-    pub solved-so : match ≡ true → length rows ≡ graph-words → bit-of rows ≡ nowhere → {truth : List ℕ}
+    -- what is solved is answered
+    pub examined-so : all ≡ true → length rows ≡ graph-words → bit-of rows ≡ nowhere → {truth : List ℕ}
         → Solves prepared (m .equations) (m .count) (take (r .count) exit) graph truth
-        → {a : Answer} → a ≡ judgement (r .count) truth → a ≡ cond (is-found t lent) (verdict t) (refusal 11 0)
-    solved-so all sized empty solves g =
-        rw (found-is, all) (verdict-so (all-there (r .over) like (sym e ∙ all)) sized empty solves g)
+        → {a : Answer} → a ≡ judgement (r .count) truth → Answered t entry exit list lent a
+    examined-so right sized empty solves g =
+        let found = all-there (r .over) _ (sym e ∙ right) in
+        record {
+          checks = λ _. judged-so found sized empty solves g;
+          solves = λ given long. rw (found-is given long, right) (verdict-so found sized empty solves g);
+        }
+
+    -- another list
+    pub refused-so : all ≡ false → lent ≡ true → {a : Answer} → a ≡ refusal 11 0 → Answered t entry exit list lent a
+    refused-so other given g = record {
+      checks = λ none. never (eq→Is (sym none ∙ given));
+      solves = λ _ long. rw (found-is given long, other) g;
+    }
+
+    -- no list, and more were reached than there is room
+    pub no-room : all ≡ false → lent ≡ false → {a : Answer} → a ≡ refusal 9 0 → Answered t entry exit list lent a
+    no-room other none g = record {
+      checks = λ _. too-many whole (over-so (r .over) (sym (rw (i, none) at e) ∙ other)) g;
+      solves = λ given. never (eq→Is (sym none ∙ given));
+    }
 
 -- ---- the whole text: rd is what was read of it
 module _ (t : List ℕ) {rd : Reading} (e : rd ≡ reading t) where

@@ -6,7 +6,7 @@ ghost use lib.ListN.{take};
 ghost use Rattle.meaning.specs.Solution.{same};
 ghost use Rattle.meaning.specs.Words.{word};
 ghost use Rattle.engine.specs.Examined.{judgement, number-found, whole, counted, ReadSomewhere};
-ghost use Rattle.engine.specs.Examined.{JudgesModel, SolvesModel, Examines, Solves};
+ghost use Rattle.engine.specs.Examined.{JudgesModel, ExaminesModel, Examines, Solves};
 use answers::Answer;
 use formulas::Tuple;
 use reading::Model;
@@ -44,27 +44,6 @@ fn start_word(s: Start) -> u32
         count: basics::smaller(s.count, 4),
     };
     words::word_of(s.equation, arguments)
-}
-
-// The answer for a model that was read, with its bodies.
-fn examine_model(model: Model, bodies: &[u8], table: &mut [u32]) -> Answer
-    requires { ⌜ ReadSomewhere model (now bodies) ⌝ }
-    ensures { λ r. ⌜ JudgesModel whole model (now (bodies .entry)) (now (table .entry))
-        (now (table .exit)) r ⌝ }
-{
-    let equations = model.equations;
-    let count = model.count;
-    let s = model.start;
-    let start = start_word(s);
-    let prepared = preparing::prepare(bodies, equations);
-    let mut graph = [0u64; 8272];
-    let found = finding::find(&prepared, equations, start, table, &mut graph);
-    if found.over {
-        return answers::refuse(9, 0);
-    }
-    let n = found.count;
-    let truth = solving::solution_of(&prepared, equations, count, &table[..n], &graph);
-    judge(n, truth)
 }
 
 // What finding alone answers: how many instances there are.
@@ -116,26 +95,30 @@ fn are_same(a: &[u32], b: &[u32]) -> bool
     true
 }
 
-// The answer for a model that was read, with its bodies, to a list: it is compared with what is found anew,
-// and what is solved is that.
-fn solve_model(model: Model, bodies: &[u8], list: &[u32]) -> Answer
+// The answer for a model that was read, with its bodies. Where a list is lent to be solved, it is compared
+// with what is found anew, and what is solved is that.
+fn examine_model(model: Model, bodies: &[u8], table: &mut [u32], list: &[u32], lent: bool) -> Answer
     requires { ⌜ ReadSomewhere model (now bodies) ⌝ }
-    ensures { λ r. ⌜ SolvesModel model (now (bodies .entry)) (now (list .entry)) r ⌝ }
+    ensures { λ r. ⌜ ExaminesModel model (now (bodies .entry)) (now (table .entry)) (now (table .exit))
+        (now (list .entry)) lent r ⌝ }
 {
     let equations = model.equations;
     let count = model.count;
     let s = model.start;
     let start = start_word(s);
     let prepared = preparing::prepare(bodies, equations);
-    let mut table = [0u32; 512];
     let mut graph = [0u64; 8272];
-    let anew = finding::find(&prepared, equations, start, &mut table, &mut graph);
-    let n = anew.count;
-    if basics::and(!anew.over, are_same(list, &table[..n])) {
+    let found = finding::find(&prepared, equations, start, table, &mut graph);
+    let n = found.count;
+    let same = basics::implies(lent, are_same(list, &table[..n]));
+    if basics::and(!found.over, same) {
         let truth = solving::solution_of(&prepared, equations, count, &table[..n], &graph);
         return judge(n, truth);
     }
-    answers::refuse(11, 0)
+    if lent {
+        return answers::refuse(11, 0);
+    }
+    answers::refuse(9, 0)
 }
 
 // The whole check of a text with a lent table.
@@ -151,7 +134,8 @@ pub fn examine(text: &[u8], table: &mut [u32]) -> Examined
         let a = answers::refuse(number, line);
         return Examined { answer: a, model };
     }
-    let a = examine_model(model, &bodies, table);
+    let no_list = [0u32; 1];
+    let a = examine_model(model, &bodies, table, &no_list, false);
     Examined { answer: a, model }
 }
 
@@ -185,6 +169,7 @@ pub fn solve(text: &[u8], list: &[u32]) -> Examined
         let a = answers::refuse(number, line);
         return Examined { answer: a, model };
     }
-    let a = solve_model(model, &bodies, list);
+    let mut table = [0u32; 512];
+    let a = examine_model(model, &bodies, &mut table, list, true);
     Examined { answer: a, model }
 }
