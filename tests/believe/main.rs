@@ -90,8 +90,9 @@ fn as_specs(in_crate: &str, code: &str) -> String {
         }
         let head = lines().next().unwrap_or("");
         if head.starts_with("pub ") && one_of("fn", head) {
-            // a function's name is no word of specs
-            let text = lines().take_while(|l| *l != "{").collect::<Vec<_>>().join("\n  ");
+            // a function's name is no word of specs; one with no contract has its brace in its first line
+            let contract = lines().skip(1).take_while(|l| *l != "{" && !head.ends_with('{'));
+            let text = std::iter::once(head.trim_end_matches('{')).chain(contract).collect::<Vec<_>>().join("\n  ");
             specs += &format!("pub fn·{}\n", text.split("fn ").nth(1).unwrap_or("")).replacen('(', " : (", 1);
         } else if one_of("struct", head) || one_of("enum", head) {
             let declared = paragraph.replace("pub(crate) ", "pub ");

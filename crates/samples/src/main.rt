@@ -1,24 +1,18 @@
-// Checks, translates or edits many texts and prints what the program prints for each, and an empty line after
-// it. On standard input each text comes after its head, eight hexadecimal digits and 0a: the first two are 00
-// for a model, which is checked, 01 for a process and a formula, which are translated, and 02 for a model of
-// which a right side is replaced; the last four are the length. Behind the head of 02 come three decimal
-// digits for the equation, and the new right side and 0a; the third and fourth digit of the head say how many
-// bytes it has.
+// Checks, translates or edits many texts, or finds or solves their lists of instances, and prints what comes
+// of each, and an empty line after it. On standard input each text comes after its head, eight hexadecimal
+// digits and 0a: the first two are 00 for a model, which is checked, 01 for a process and a formula, which
+// are translated, 02 for a model of which a right side is replaced, 03 for one whose instances are found, and
+// 04 for one whose list of them is solved; the last four are the length. Behind the head of 02 come three
+// decimal digits for the equation, and the new right side and 0a; the third and fourth digit of the head say
+// how many bytes it has. Behind those of 03 and 04 comes what the crate `sampling` reads.
 // README.md beside this folder says what the texts are and how the expected output was made.
 ghost use mathlib.Core.Path.{_≡_};
 ghost use lib.ListN.{length};
 
-// As many bytes as the longest answer takes.
-fn answer_buffer() -> [u8; 7693]
-    ensures { λ r. ⌜ 7693 ≡ length r ⌝ }
-{
-    [0; 7693]
-}
-
 // Reads a text as long as the buffer and prints its answer.
 fn answer(buffer: &mut [u8]) {
     let n = io::read_full(libc::STDIN_FILENO, buffer);
-    let mut out = answer_buffer();
+    let mut out = sampling::answer_buffer();
     let written = checker::devashtor_check(&buffer[..n], &mut out);
     io::write_all(libc::STDOUT_FILENO, &out[..written]);
     io::write_all(libc::STDOUT_FILENO, b"\n");
@@ -88,6 +82,10 @@ fn answer_first(buffer: &mut [u8], n: usize, kind: u8, count: u8) {
         translation(&mut buffer[..m]);
     } else if kind == 2 {
         replacement_of(&mut buffer[..m], count);
+    } else if kind == 3 {
+        sampling::find(&mut buffer[..m]);
+    } else if kind == 4 {
+        sampling::solve(&mut buffer[..m]);
     } else {
         answer(&mut buffer[..m]);
     }

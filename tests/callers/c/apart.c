@@ -6,7 +6,9 @@
    run with status 1.
 
        apart [HOW MANY [SEED]]          texts made from the seed
-       apart samples TEXTS ANSWERS      the texts of a file: crates/samples/README.md tells its form
+       apart samples TEXTS ANSWERS      the texts of a file: crates/samples/README.md tells its form; those that are
+                                        checked there are found in and solved, and those that are found in or
+                                        solved there, with their tables and lists
 
    Text, table, list and buffer end where memory may not be touched, and the list often stands where it may only be
    read, so that a read or a write past any of them, or a write to the list, ends the run at once. */
@@ -266,17 +268,85 @@ static void try_sample(const struct sample *s)
     try_after_each_other(&t);
 }
 
-/* Those that are checked: translate.c and replace.c have the others. */
-static int known_samples(const char *texts_name, const char *answers_name)
+/* What is printed for the word and the table: a line of digits for each. Of whom they are says `whose`. */
+static void must_show(const struct sample *s, const struct text *t, uint64_t word, const uint32_t *table,
+                      const char *whose)
+{
+    static char shown[17 + 9 * SAMPLE_WORDS + 1];
+    size_t length = (size_t)sprintf(shown, "%016llx\n", (unsigned long long)word);
+    for (size_t i = 0; i < s->words; i++)
+        length += (size_t)sprintf(shown + length, "%08x\n", (unsigned)table[i]);
+    if (length == s->answer_length && memcmp(shown, s->answer, length) == 0)
+        return;
+    printf("apart.c: in a table of %zu words %s finds\n%s", s->words, whose, shown);
+    fail("another list than is due by the samples", t);
+}
+
+enum { GIVEN, REFUSED, NOT_HELD, OUTCOMES }; /* a list or a verdict; by 1 to 8; by 9 or 11 */
+
+static unsigned long found_samples[OUTCOMES], solved_samples[OUTCOMES];
+
+/* A sample that is to be found, in a table of ones. */
+static void try_found(const struct sample *s)
+{
+    static uint8_t copy[TEXT_MOST];
+    static uint32_t plain[SAMPLE_WORDS];
+    struct text t = {copy, s->length};
+    uint32_t *table = table_end - s->words;
+    uint64_t word;
+    memcpy(copy, s->text, s->length);
+    memset(table, 0xff, s->words * sizeof *table);
+    memset(plain, 0xff, sizeof plain);
+    word = devashtor_find(lend(&t), t.length, table, s->words);
+    must_show(s, &t, word, table, "the archive");
+    must_show(s, &t, plain_find(t.bytes, t.length, plain, s->words), plain, "the plain one");
+    call_find(&t, s->words, FRONT);
+    found_samples[!DEVASHTOR_REFUSED(word) ? GIVEN : DEVASHTOR_NUMBER(word) == OVER ? NOT_HELD : REFUSED]++;
+}
+
+/* A sample whose list is to be solved. */
+static void try_solved(const struct sample *s)
+{
+    static uint8_t copy[TEXT_MOST];
+    static struct list l;
+    struct text t = {copy, s->length};
+    const uint8_t *out = out_end - DEVASHTOR_ROOM;
+    size_t refusal = strlen((const char *)not_its_list);
+    memcpy(copy, s->text, s->length);
+    memcpy(l.word, s->list, s->words * sizeof *l.word);
+    l.count = s->words;
+    if (call_solve(&t, &l, DEVASHTOR_ROOM) != s->answer_length || memcmp(out, s->answer, s->answer_length) != 0)
+        fail_with(&l, "another answer than is due by the samples", &t);
+    solved_samples[hex(out) != 6 ? GIVEN : memcmp(out, not_its_list, refusal) == 0 ? NOT_HELD : REFUSED]++;
+}
+
+static size_t all_samples(enum sample_kind kind, const char *texts_name, const char *answers_name,
+                          void (*try)(const struct sample *))
 {
     const struct sample *s;
     size_t samples = 0;
     samples_open(texts_name, answers_name);
-    for (; (s = samples_next(SAMPLE_CHECKED)) != NULL; samples++)
-        try_sample(s);
-    printf("apart.c: %zu samples, no difference: solved %lu, refused %lu, over 512 %lu\n", samples, solved_after,
+    for (; (s = samples_next(kind)) != NULL; samples++)
+        try(s);
+    return samples;
+}
+
+/* Those that are checked, found and solved: translate.c and replace.c have the others. */
+static int known_samples(const char *texts_name, const char *answers_name)
+{
+    size_t checked = all_samples(SAMPLE_CHECKED, texts_name, answers_name, try_sample);
+    size_t found = all_samples(SAMPLE_FOUND, texts_name, answers_name, try_found);
+    size_t solved = all_samples(SAMPLE_SOLVED, texts_name, answers_name, try_solved);
+    bool weak = solved_after == 0 || refused_after == 0 || over_after == 0;
+    for (unsigned how = 0; how < OUTCOMES; how++)
+        weak |= found_samples[how] == 0 || solved_samples[how] == 0;
+    printf("apart.c: %zu samples checked, no difference: solved %lu, refused %lu, over 512 %lu", checked, solved_after,
            refused_after, over_after);
-    if (solved_after > 0 && refused_after > 0 && over_after > 0)
+    printf("; %zu found in: found %lu, refused %lu, no room %lu", found, found_samples[GIVEN], found_samples[REFUSED],
+           found_samples[NOT_HELD]);
+    printf("; %zu solved: its list %lu, refused %lu, another list %lu\n", solved, solved_samples[GIVEN],
+           solved_samples[REFUSED], solved_samples[NOT_HELD]);
+    if (!weak)
         return 0;
     printf("apart.c: a kind of answer is missing, so these samples are too weak\n");
     return 1;

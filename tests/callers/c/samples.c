@@ -5,13 +5,15 @@
 #include <stdio.h>
 #include <stdlib.h>
 
-enum { HEAD = 8, EQUATION = 3 }; /* digits */
+enum { HEAD = 8, EQUATION = 3, COUNT = 4, WORD = 8 }; /* digits */
 
 static uint8_t *texts, *answers;
 static size_t texts_length, answers_length, at, from;
 
 void samples_open(const char *texts_name, const char *answers_name)
 {
+    free(texts);
+    free(answers);
     texts = texts_of_file(texts_name, &texts_length);
     answers = texts_of_file(answers_name, &answers_length);
     at = from = 0;
@@ -46,6 +48,26 @@ static void end_of_line(void)
     at++;
 }
 
+/* What stands between the head and the text. */
+static void next_side(struct sample *s)
+{
+    s->equation = number(EQUATION, 10);
+    for (size_t i = 0; i < s->side_length; i++)
+        s->side[i] = (uint8_t)number(2, 16);
+    end_of_line();
+}
+
+static void next_words(struct sample *s)
+{
+    s->words = number(COUNT, 16);
+    must(s->words <= SAMPLE_WORDS);
+    end_of_line();
+    for (size_t i = 0; s->kind == SAMPLE_SOLVED && i < s->words; i++) {
+        s->list[i] = (uint32_t)number(WORD, 16);
+        end_of_line();
+    }
+}
+
 static void next_text(struct sample *s)
 {
     size_t head = number(HEAD, 16);
@@ -53,13 +75,11 @@ static void next_text(struct sample *s)
     s->kind = (unsigned)(head >> 24);
     s->length = head & 0xffff;
     s->side_length = head >> 16 & 0xff;
-    must(s->kind == SAMPLE_REPLACED || (s->kind < SAMPLE_REPLACED && s->side_length == 0));
-    if (s->kind == SAMPLE_REPLACED) {
-        s->equation = number(EQUATION, 10);
-        for (size_t i = 0; i < s->side_length; i++)
-            s->side[i] = (uint8_t)number(2, 16);
-        end_of_line();
-    }
+    must(s->kind == SAMPLE_REPLACED || (s->kind <= SAMPLE_SOLVED && s->side_length == 0));
+    if (s->kind == SAMPLE_REPLACED)
+        next_side(s);
+    if (s->kind == SAMPLE_FOUND || s->kind == SAMPLE_SOLVED)
+        next_words(s);
     must(at + s->length <= texts_length);
     s->text = texts + at;
     at += s->length;

@@ -5,18 +5,23 @@
 #include <stddef.h>
 #include <stdint.h>
 
-enum sample_kind { SAMPLE_CHECKED, SAMPLE_TRANSLATED, SAMPLE_REPLACED };
+enum sample_kind { SAMPLE_CHECKED, SAMPLE_TRANSLATED, SAMPLE_REPLACED, SAMPLE_FOUND, SAMPLE_SOLVED };
 
-/* `equation` and `side`: what is to be replaced by what, in a text of that kind. */
+enum { SAMPLE_WORDS = 514 }; /* no more are lent, and no list has more */
+
+/* `equation` and `side`: what is to be replaced by what, in a text of that kind. `words`: how many a table has that is
+   lent to find in, or the list that is to be solved, and `list` are that list's. */
 struct sample {
     unsigned kind;
     const uint8_t *text, *answer;
     size_t length, answer_length;
     size_t equation, side_length;
     uint8_t side[255];
+    size_t words;
+    uint32_t list[SAMPLE_WORDS];
 };
 
-/* Both files; the run ends where one is not there. */
+/* Both files, from their beginning; the run ends where one is not there. */
 void samples_open(const char *texts_name, const char *answers_name);
 
 /* The next text of this kind, NULL where there is none left. The run ends with status 1 where the files do not
