@@ -37,6 +37,7 @@ use Rattle.engine.specs.Examined.{judgement, number-found, whole, counte
 use Rattle.engine.specs.Examined as examined
 use Rattle.engine.proofs.ReadModel.{model-is, well-formed-model, start-is}
 
+-- ---- truth values: joined with a constant; and what both holding, or not, says of the first
 with-true : (b : Bool) → b ≡ (b && true)
 with-true true = refl
 with-true false = refl
@@ -53,7 +54,7 @@ over-so : (over : Bool) → (not over && true) ≡ false → over ≡ true
 over-so true e = refl
 over-so false e = never (eq→Is (sym e))
 
--- what was found in an accepted text: m is the model that was read, `prepared` are its bodies, prepared, `entry` and `exit`
+-- ---- what was found in an accepted text: m is the model that was read, `prepared` are its bodies, prepared, `entry` and `exit`
 -- are the table before and after, and `graph` is what was drawn on empty rows
 pub record Searched (t : List ℕ) (m : Model) (bodies prepared entry exit rows graph : List ℕ) (w : ℕ) (r : Found) : Type 0
   where

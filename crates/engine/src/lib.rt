@@ -161,12 +161,12 @@ pub fn solve(text: &[u8], list: &[u32]) -> Examined
     ensures { λ r. ⌜ Solves (now (text .entry)) (now (list .entry)) r ⌝ }
 {
     let r = reading::read_model(text);
-    let number = r.number;
+    let refused = r.number;
     let line = r.line;
     let model = r.model;
     let bodies = r.bodies;
-    if number != 0 {
-        let a = answers::refuse(number, line);
+    if refused != 0 {
+        let a = answers::refuse(refused, line);
         return Examined { answer: a, model };
     }
     let mut table = [0u32; 512];

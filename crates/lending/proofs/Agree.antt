@@ -14,14 +14,14 @@ use Rattle.reading.specs.Records.{reading}
 use Rattle.reading.proofs.Finishing.{few}
 use Rattle.reading.proofs.WellFormed.{reading-drafted}
 use Rattle.answers.specs.declared.Answer.{Answer}
-use Rattle.answers.specs.Answers.{refusal, checked, solved, table-after-check}
+use Rattle.answers.specs.Answers.{refusal, answer, checked, solved, table-after-check}
 use Rattle.engine.specs.declared.Examined.{Examined}
-use Rattle.engine.specs.Examined.{whole, counted, Examines, Solves}
+use Rattle.engine.specs.Examined.{Examines, Solves}
 use Rattle.lending.specs.declared.Record.{Record}
 use Rattle.lending.specs.declared.Prepared.{Prepared}
-use Rattle.lending.specs.Records.{record-of, records-of, records-after, read-answer, find-answer}
-use Rattle.lending.specs.Records.{records-after-read, records-after-check, records-after-find, records-after-solve}
-use Rattle.lending.specs.Prepared.{overwritten, prepared, Fills, ReadPrepared, CheckPrepared, FindPrepared, SolvePrepared}
+use Rattle.lending.specs.Records.{record-of, records-of, records-after, read-answer}
+use Rattle.lending.specs.Records.{records-after-read, records-after-check, records-after-solve}
+use Rattle.lending.specs.Prepared.{overwritten, prepared, Fills, ReadPrepared, TablePrepared, SolvePrepared}
 use Rattle.meaning.specs.Mapped.{map-take}
 
 chosen : (verdict : Bool) (model : Model) (records : List Record)
@@ -72,43 +72,26 @@ module _ {t : List ℕ} {room : ℕ} {p : Prepared} where
         (ap (λ (s : Reading). s .model) is) e;
   }
 
-  -- checking: the list is too short, or the text was examined as e
-  pub short-check : {table : List ℕ} → room < 8 → (p .answer ≡ refusal 5 0) × (p .count ≡ 0)
-      → CheckPrepared t room table p table
+  -- checking and finding: the list is too short
+  pub short-table : {A : Type 0} (told : Answer → A) {table : List ℕ} → room < 8 → (p .answer ≡ refusal 5 0) × (p .count ≡ 0)
+      → TablePrepared told t room table p table
   unfolding checked records-after-check table-after-check
-  short-check {table} short e = record {
+  short-table told {table} short e = record {
     answers = rw (e .0, lt-ltb room 8 short) refl;
     fills = fills-nothing t room (λ n. checked t n (length table) .number) (e .1) (rw (lt-ltb room 8 short) refl);
     listed = rw (lt-ltb room 8 short) refl;
   }
 
-  pub long-check : 8 ≤ room → {table left : List ℕ} {e : Examined} → Examines whole t table e left
-      → p ≡ prepared (e .answer) (e .model) → CheckPrepared t room table p left
+  -- or of the text e was examined, of whose answer enough is shown
+  pub long-table : {A : Type 0} (told : Answer → A) (shown : Answer → Answer)
+      → ((a : Answer) → (told (shown a) ≡ told a) × (shown a .number ≡ a .number)) → 8 ≤ room
+      → {table left : List ℕ} {e : Examined} → Examines shown t table e left → p ≡ prepared (e .answer) (e .model)
+      → TablePrepared told t room table p left
   unfolding checked records-after-check table-after-check
-  long-check wide {table} is q = record {
-    answers = rw (q, is .answered, le-ltb room 8 wide) refl;
-    fills = fills t room (λ n. checked t n (length table) .number) wide (rw (is .answered, le-ltb room 8 wide) refl)
-        (is .read) q;
-    listed = rw (le-ltb room 8 wide) (is .listed);
-  }
-
-  -- finding
-  pub short-find : {table : List ℕ} → room < 8 → (p .answer ≡ refusal 5 0) × (p .count ≡ 0)
-      → FindPrepared t room table p table
-  unfolding checked find-answer records-after-find table-after-check
-  short-find {table} short e = record {
-    answers = rw (e .0, lt-ltb room 8 short) refl;
-    fills = fills-nothing t room (λ n. checked t n (length table) .number) (e .1) (rw (lt-ltb room 8 short) refl);
-    listed = rw (lt-ltb room 8 short) refl;
-  }
-
-  pub long-find : 8 ≤ room → {table left : List ℕ} {e : Examined} → Examines counted t table e left
-      → p ≡ prepared (e .answer) (e .model) → FindPrepared t room table p left
-  unfolding checked find-answer records-after-find table-after-check
-  long-find wide {table} is q = record {
-    answers = rw (q, is .answered, le-ltb room 8 wide) refl;
-    fills = fills t room (λ n. checked t n (length table) .number) wide (rw (is .answered, le-ltb room 8 wide) refl)
-        (is .read) q;
+  long-table told shown enough wide {table} is q = record {
+    answers = rw (q, is .answered, le-ltb room 8 wide) (enough (answer t (length table)) .0);
+    fills = fills t room (λ n. checked t n (length table) .number) wide
+        (rw (is .answered, le-ltb room 8 wide) (enough (answer t (length table)) .1)) (is .read) q;
     listed = rw (le-ltb room 8 wide) (is .listed);
   }
 

@@ -15,7 +15,7 @@ use Rattle.answers.specs.Apart.{find-then-solve}
 use Rattle.lending.specs.declared.Record.{Record}
 use Rattle.lending.specs.declared.FindAnswer.{FindAnswer}
 use Rattle.lending.specs.Records.{find-answer, records-after, records-of}
-use Rattle.lending.specs.Records.{records-after-check, records-after-find, records-after-solve}
+use Rattle.lending.specs.Records.{records-after-check, records-after-solve}
 use Rattle.lending.specs.Promises.{Found, Solved, Checked}
 use Rattle.lending.specs.Lent.{lent-after-find, records-counted}
 
@@ -32,7 +32,6 @@ module _ (t : List ℕ) (records : List Record) (table : List ℕ) {a : FindAnsw
   -- `find` refuses: so does `check`, and leaves what `find` leaves
   pub find-refused : (a .number ≡ 0 → ⊥)
       → Checked t records table (refusal (a .number) (a .line)) records-left table-left
-  unfolding find-answer records-after-find records-after-check
   find-refused n = record {
     answered =
         let refused = rw (f .answered) at n in
@@ -46,7 +45,7 @@ module _ (t : List ℕ) (records : List Record) (table : List ℕ) {a : FindAnsw
   pub find-and-solve : a .number ≡ 0 → {b : Answer} {records-last : List Record}
       → Solved t records-left (take (a .reached) table-left) b records-last
       → (b .number ≡ 0) × Checked t records table b records-last table-left
-  unfolding find-answer records-after-find records-after-check records-after-solve
+  unfolding records-after-check records-after-solve
   find-and-solve zero {b} {records-last} s =
       (number answers ∙ given, record { answered = answers; filled = fills; listed = f .listed })
     where

@@ -19,8 +19,7 @@ use Rattle.answers.specs.Apart.{solving-given}
 use Rattle.lending.specs.declared.Record.{Record}
 use Rattle.lending.specs.declared.ReadAnswer.{ReadAnswer}
 use Rattle.lending.specs.Records.{record-of, records-of, read-answer, find-answer, records-after}
-use Rattle.lending.specs.Records.{records-after-read, records-after-check}
-use Rattle.lending.specs.Records.{records-after-find, records-after-solve}
+use Rattle.lending.specs.Records.{records-after-read, records-after-check, records-after-solve}
 
 -- what an operation that answers `number` to the text t leaves of the records lent
 pub record Lent (t : List ℕ) (records : List Record) (number : ℕ) (left : List Record) : Type 0 where
@@ -85,9 +84,8 @@ module _ (t : List ℕ) (records : List Record) where
 
   pub lent-after-find : (words-lent : ℕ) →
       Lent t records (find-answer t (length records) words-lent .number)
-      (records-after-find t words-lent records)
-  unfolding records-after-find find-answer
-  lent-after-find words-lent = lent-after _ (λ z. verdict-given t (length records) words-lent .0 z .0)
+      (records-after-check t words-lent records)
+  lent-after-find = lent-after-check
 
   pub lent-after-solve : (lent : List ℕ) →
       Lent t records (solved t (length records) lent .number) (records-after-solve t lent records)

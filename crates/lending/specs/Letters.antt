@@ -15,7 +15,7 @@ use Rattle.lending.specs.declared.Record.{Record}
 use Rattle.lending.specs.declared.ReadAnswer.{ReadAnswer}
 use Rattle.lending.specs.declared.FindAnswer.{FindAnswer}
 use Rattle.lending.specs.Records.{read-answer, find-answer, records-after-read, records-after-check}
-use Rattle.lending.specs.Records.{records-after-find, records-after-solve}
+use Rattle.lending.specs.Records.{records-after-solve}
 use Rattle.lending.specs.Promises.{Read, Checked, Found, Solved}
 
 module _ (t : List ℕ) where
@@ -66,21 +66,18 @@ module _ (t : List ℕ) where
   -- ---- finding
   counts-in-small : (records words : ℕ)
       → find-answer (in-small-letters t) records words ≡ find-answer t records words
-  unfolding find-answer
   counts-in-small records words = rw (checked-in-small records words) refl
 
   pub find-alike : {records xs ys : List Record} {table ws vs : List ℕ} {a b : FindAnswer}
       → Found t records table a xs ws → Found (in-small-letters t) records table b ys vs
       → (a ≡ b) × ((xs ≡ ys) × (ws ≡ vs))
-  unfolding records-after-find
-  find-alike {records} {table = table} p q =
-      let same = counts-in-small (length records) (length table) in (
-        one-reply (p .answered) (q .answered ∙ same),
-        (
-          one-reply (p .filled) (rw (same, reading-in-small t) at (q .filled)),
-          one-reply (p .listed) (q .listed ∙ listed-in-small (length records) table),
-        ),
-      )
+  find-alike {records} {table = table} p q = (
+    one-reply (p .answered) (q .answered ∙ counts-in-small (length records) (length table)),
+    (
+      one-reply (p .filled) (q .filled ∙ records-in-small (length table) records),
+      one-reply (p .listed) (q .listed ∙ listed-in-small (length records) table),
+    ),
+  )
 
   -- ---- solving
   list-in-small : (records : ℕ) (lent : List ℕ)

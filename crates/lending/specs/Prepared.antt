@@ -11,9 +11,8 @@ use Rattle.answers.specs.declared.Answer.{Answer}
 use Rattle.answers.specs.Answers.{checked, solved, table-after-check}
 use Rattle.lending.specs.declared.Record.{Record}
 use Rattle.lending.specs.declared.Prepared.{Prepared}
-use Rattle.lending.specs.Records.{record-of, read-from, find-from, read-answer, find-answer}
-use Rattle.lending.specs.Records.{records-after-read, records-after-check}
-use Rattle.lending.specs.Records.{records-after-find, records-after-solve}
+use Rattle.lending.specs.Records.{record-of, read-from, read-answer}
+use Rattle.lending.specs.Records.{records-after-read, records-after-check, records-after-solve}
 
 -- what stands past the end of a list, which no contract reaches
 abbrev pub blank : Record
@@ -42,16 +41,11 @@ pub record ReadPrepared (t : List ℕ) (room : ℕ) (p : Prepared) : Type 0 wher
   pub answers : read-from (p .answer) ≡ read-answer t room
   pub fills : Fills room (records-after-read t) p
 
-pub record CheckPrepared (t : List ℕ) (room : ℕ) (table : List ℕ) (p : Prepared) (table-left : List ℕ)
-    : Type 0 where
-  pub answers : p .answer ≡ checked t room (length table)
+-- with a table, for an operation that tells so much of the answer of a check
+pub record TablePrepared {A : Type 0} (told : Answer → A) (t : List ℕ) (room : ℕ) (table : List ℕ)
+    (p : Prepared) (table-left : List ℕ) : Type 0 where
+  pub answers : told (p .answer) ≡ told (checked t room (length table))
   pub fills : Fills room (records-after-check t (length table)) p
-  pub listed : table-left ≡ table-after-check t room table
-
-pub record FindPrepared (t : List ℕ) (room : ℕ) (table : List ℕ) (p : Prepared) (table-left : List ℕ)
-    : Type 0 where
-  pub answers : find-from (p .answer) ≡ find-answer t room (length table)
-  pub fills : Fills room (records-after-find t (length table)) p
   pub listed : table-left ≡ table-after-check t room table
 
 pub record SolvePrepared (t : List ℕ) (room : ℕ) (lent : List ℕ) (p : Prepared) : Type 0 where

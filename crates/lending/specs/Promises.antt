@@ -12,7 +12,7 @@ use Rattle.lending.specs.declared.Record.{Record}
 use Rattle.lending.specs.declared.ReadAnswer.{ReadAnswer}
 use Rattle.lending.specs.declared.FindAnswer.{FindAnswer}
 use Rattle.lending.specs.Records.{read-answer, find-answer, records-after-read, records-after-check}
-use Rattle.lending.specs.Records.{records-after-find, records-after-solve}
+use Rattle.lending.specs.Records.{records-after-solve}
 
 -- reading the text t, lent `records`: it answers a and leaves `records-left`
 pub record Read (t : List ℕ) (records : List Record) (a : ReadAnswer) (records-left : List Record) : Type 0
@@ -31,7 +31,7 @@ pub record Checked (t : List ℕ) (records : List Record) (table : List ℕ) (a 
 pub record Found (t : List ℕ) (records : List Record) (table : List ℕ) (a : FindAnswer)
     (records-left : List Record) (table-left : List ℕ) : Type 0 where
   pub answered : a ≡ find-answer t (length records) (length table)
-  pub filled : records-left ≡ records-after-find t (length table) records
+  pub filled : records-left ≡ records-after-check t (length table) records
   pub listed : table-left ≡ table-after-check t (length records) table
 
 -- solving the list `lent` of the text t, lent `records`: it answers a and leaves `records-left`

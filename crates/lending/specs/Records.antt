@@ -42,21 +42,17 @@ read-answer t records-lent =
     (record { number = reading t .number; line = reading t .line })
 
 -- "one finds": number, line and reached count as of `check`
-unfoldable pub find-answer : List ℕ → ℕ → ℕ → FindAnswer
+abbrev pub find-answer : List ℕ → ℕ → ℕ → FindAnswer
 find-answer t records-lent words-lent = find-from (checked t records-lent words-lent)
 
 unfoldable pub records-after-read : List ℕ → List Record → List Record
 records-after-read t records = records-after (read-answer t (length records) .number) (reading t .model)
     records
 
+-- after checking, and after finding, which refuses alike
 unfoldable pub records-after-check : List ℕ → ℕ → List Record → List Record
 records-after-check t words-lent records = records-after (checked t (length records) words-lent .number)
     (reading t .model) records
-
--- finding refuses as `check` does
-unfoldable pub records-after-find : List ℕ → ℕ → List Record → List Record
-records-after-find t words-lent records = records-after
-    (find-answer t (length records) words-lent .number) (reading t .model) records
 
 unfoldable pub records-after-solve : List ℕ → List ℕ → List Record → List Record
 records-after-solve t lent records = records-after (solved t (length records) lent .number)

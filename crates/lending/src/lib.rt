@@ -5,10 +5,11 @@ ghost use mathlib.Core.List.{map};
 ghost use Prim.Native.Nat.{_<_, _≤_};
 ghost use lib.ListN.{length, getD};
 ghost use Rattle.answers.specs.Answers.{refusal};
+ghost use Rattle.engine.specs.Examined.{whole};
 ghost use Rattle.lending.specs.Records.{record-of, read-from, find-from};
 ghost use Rattle.lending.specs.Promises.{Read, Checked, Found, Solved};
 ghost use Rattle.lending.specs.Prepared.{blank, overwritten, prepared};
-ghost use Rattle.lending.specs.Prepared.{ReadPrepared, CheckPrepared, FindPrepared, SolvePrepared};
+ghost use Rattle.lending.specs.Prepared.{ReadPrepared, TablePrepared, SolvePrepared};
 use answers::Answer;
 use formulas::Equation;
 use reading::Model;
@@ -62,7 +63,7 @@ pub fn check(text: &[u8], records: &mut [Record], table: &mut [u32]) -> Answer
     answer_of(p)
 }
 
-// Finds the reached instances of a text: fills the lent records and writes them into the lent table.
+// Finds the reached instances of a text: writes them into the lent table, and fills the lent records.
 pub fn find(text: &[u8], records: &mut [Record], table: &mut [u32]) -> FindAnswer
     ensures { λ r. ⌜ Found (now (text .entry)) (now (records .entry)) (now (table .entry)) r
         (now (records .exit)) (now (table .exit)) ⌝ }
@@ -142,7 +143,8 @@ fn prepare_read(text: &[u8], room: usize) -> Prepared
 
 // Judges the length of the lent list first, then examines the text; the table is touched only there.
 fn prepare_check(text: &[u8], room: usize, table: &mut [u32]) -> Prepared
-    ensures { λ r. ⌜ CheckPrepared (now (text .entry)) room (now (table .entry)) r (now (table .exit)) ⌝ }
+    ensures { λ r. ⌜ TablePrepared whole (now (text .entry)) room (now (table .entry)) r
+        (now (table .exit)) ⌝ }
 {
     if room < 8 {
         return refuse_short_list();
@@ -153,7 +155,8 @@ fn prepare_check(text: &[u8], room: usize, table: &mut [u32]) -> Prepared
 
 // The same for finding.
 fn prepare_find(text: &[u8], room: usize, table: &mut [u32]) -> Prepared
-    ensures { λ r. ⌜ FindPrepared (now (text .entry)) room (now (table .entry)) r (now (table .exit)) ⌝ }
+    ensures { λ r. ⌜ TablePrepared find-from (now (text .entry)) room (now (table .entry)) r
+        (now (table .exit)) ⌝ }
 {
     if room < 8 {
         return refuse_short_list();

@@ -5,7 +5,8 @@ use mathlib.Core.List.{[], _∷_}
 use Rattle.answers.proofs.Answer.{the-type}
 use Rattle.answers.proofs.Answer.Laws.{the-laws}
 use Rattle.lending.specs.Promises.{Checked}
-use Rattle.lending.specs.Prepared.{CheckPrepared}
+use Rattle.engine.specs.Examined.{whole}
+use Rattle.lending.specs.Prepared.{TablePrepared}
 use Rattle.lending.proofs.Operation.{Operation, meets}
 use Rattle.lending.proofs.Operation.Tables.{written}
 use Rattle.lending.proofs.prepare_check.Symbol as prepare
@@ -20,7 +21,7 @@ checking : Operation the-type {m = 3} (written 2 (λ κs. κs .1 .1 .0) ∷ [])
 checking = record {
   laws = the-laws;
   #prepare = prepare.name;
-  prepares = λ t room us p vs. CheckPrepared t room (us .0) p (vs .0);
+  prepares = λ t room us p vs. TablePrepared whole t room (us .0) p (vs .0);
   #answer = answer.name;
   answer = λ p. p .answer;
   promises = λ t rs us r zs vs. Checked t rs (us .0) r zs (vs .0);

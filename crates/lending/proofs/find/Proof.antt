@@ -4,7 +4,7 @@ use mathlib.Core.Path.{refl}
 use mathlib.Core.List.{[], _∷_}
 use Rattle.lending.specs.Records.{find-from}
 use Rattle.lending.specs.Promises.{Found}
-use Rattle.lending.specs.Prepared.{FindPrepared}
+use Rattle.lending.specs.Prepared.{TablePrepared}
 use Rattle.lending.proofs.Operation.{Operation, meets}
 use Rattle.lending.proofs.Operation.Tables.{written}
 use Rattle.lending.proofs.FindAnswer.{the-type}
@@ -21,7 +21,7 @@ finding : Operation the-type {m = 3} (written 2 (λ κs. κs .1 .1 .0) ∷ [])
 finding = record {
   laws = the-laws;
   #prepare = prepare.name;
-  prepares = λ t room us p vs. FindPrepared t room (us .0) p (vs .0);
+  prepares = λ t room us p vs. TablePrepared find-from t room (us .0) p (vs .0);
   #answer = answer.name;
   answer = λ p. find-from (p .answer);
   promises = λ t rs us r zs vs. Found t rs (us .0) r zs (vs .0);

@@ -1,17 +1,19 @@
 -- `lending::prepare_check` meets its contract.
 -- The short list is judged before the text is examined, and then the table is as it was.
 use borrow.Author.Needs.{needs}
-use Rattle.lending.proofs.Agree.{short-check, long-check}
+use mathlib.Core.Path.{refl}
+use Rattle.engine.specs.Examined.{whole}
+use Rattle.lending.proofs.Agree.{short-table, long-table}
 use Rattle.lending.proofs.prepare_check.Statement.{statement}
 use Rattle.lending.proofs.prepare_check.Tie as tie
 
 too-short : tie.Need-returns
-too-short c = short-check (c .before .if1 .taken) (c .refuse-short-list .ensures)
+too-short c = short-table whole (c .before .if1 .taken) (c .refuse-short-list .ensures)
 
 examined : tie.Need-returns-2
 examined c =
     let e = c .before .before .before in
-    long-check (e .before .before .if1 .left) (e .examine .ensures) (c .prepare .ensures)
+    long-table whole whole (λ a. (refl, refl)) (e .before .before .if1 .left) (e .examine .ensures) (c .prepare .ensures)
 
 pub prepare-check-spec : {M : Type 1} → statement M
 prepare-check-spec =
