@@ -17,7 +17,7 @@ use Rattle.writing.specs.Writing.{reply-of, buffer-after}
 use Rattle.translator.specs.Answers.{translated-text, translation-refusal}
 use Rattle.replacer.specs.Replaced.{replaced-text, replacement-refusal}
 
--- what C gets for a reply: how many bytes were written or, on a refusal, 2^63 + number * 2^32 + line
+-- what C gets for a reply: how much was written, or found; on a refusal 2^63 + number * 2^32 + line
 unfoldable pub reply-word : Writing → ℕ
 reply-word w =
     cond (eqb (w .number) 0) (w .length) (0x8000000000000000 + w .number * 0x100000000 + w .line)
