@@ -12,8 +12,7 @@ const END: &str = "<!-- believed: end -->\n";
 /// those that the page names: the others serve the proofs of the code.
 const HEADLINES: &str = "answers/specs/Demand1 answers/specs/Demand2 answers/specs/Demand3
     frames/specs/RoundTrip reading/proofs/LineNumbers answers/specs/Samples answers/specs/Apart
-    lending/specs/Lent lending/specs/Counted lending/specs/Samples lending/specs/Promises lending/specs/Apart
-    lending/specs/Letters checker/specs/Promises checker/specs/Apart
+    lending/specs/Lent lending/specs/Promises lending/specs/Apart lending/specs/Letters checker/specs/Promises checker/specs/Apart
     meaning/specs/Looser meaning/specs/Counterexamples meaning/specs/GoesRound printing/specs/Promise
     printing/proofs/Answered
     translation/specs/Correct translation/specs/Sound translation/specs/Looser spelling/specs/ModelText

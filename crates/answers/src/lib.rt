@@ -1,12 +1,14 @@
 // What comes back for a text: the struct of every answer, and the refusal. The definitions of all answers and
 // the theorems over them stand in specs/.
+#![tactic(auto)]
+
 ghost use Rattle.std.specs.Prelude.{◌≡◌};
 ghost use Rattle.answers.specs.Answers.{refusal};
 
 // Number and line are 0 on a verdict; on a refusal everything else is 0. verdict: 1 holds, 0 fails.
 // reached and trues count the reached instances and those of them that are true; truth has instance j as
 // bit j % 64 of word j / 64.
-#[derive(Drop)]
+#[derive(Clone, Copy)]
 pub struct Answer {
     pub number: u8,
     pub line: usize,

@@ -1,4 +1,6 @@
 // Small steps on bytes, numbers and truth values that every crate takes.
+#![tactic(auto)]
+
 ghost use Rattle.std.specs.Prelude.{◌≡◌, true, cond, ◌&&◌, ◌-◌, ◌<◌, min, get_or};
 
 // A byte as an index or a count.

@@ -1,4 +1,6 @@
 // The public operations, and those for C: each a thin function over what the crates below do.
+#![tactic(auto)]
+
 ghost use Rattle.std.specs.Prelude.{◌≡◌, ◌≤◌};
 ghost use Rattle.printing.specs.Promise.{Written, SolvedWritten};
 ghost use Rattle.checker.specs.Promises.{reply_word, FindsForC, TranslatesForC, ReplacesForC};

@@ -1,6 +1,8 @@
 // The program: a text on standard input, what the command prints for it on standard output. With no command,
 // or with `check`, the text is a model, which is checked; with `translate` a process and a formula; with
 // `replace E SIDE` a model, of which one right side is replaced. With any other word nothing is printed.
+#![tactic(auto)]
+
 ghost use Rattle.std.specs.Prelude.{◌≡◌, length};
 
 fn main() {

@@ -1,4 +1,6 @@
 // Hexadecimal digits. The worth of every byte value comes from one table.
+#![tactic(auto)]
+
 mod worths;
 
 ghost use Rattle.std.specs.Prelude.{◌≡◌, get_or};

@@ -1,12 +1,14 @@
 // The text of the model of a process and a formula, from the sheet on which they are laid out: one line for
 // each equation, then the start.
+#![tactic(auto)]
+
 ghost use Rattle.std.specs.Prelude.{◌≡◌, cond, ◌+◌, ◌≤◌, length, replicate};
 ghost use Rattle.emitter.specs.Built.{no_text, ModelTold, CountTold, FixedTold, HeadTold, HeadPut};
 ghost use Rattle.emitter.specs.Built.{EquationPut, EquationsPut, StartPut};
 
 // Whether the model is within the limits; its text, zeros after it, and how long that is. All zeros where it
 // is not.
-#[derive(Drop)]
+#[derive(Clone, Copy)]
 pub struct Built {
     pub ok: bool,
     pub length: usize,
@@ -15,7 +17,7 @@ pub struct Built {
 
 // Of an equation: its sign, the place of its formula, counted from the first byte of the formula's frame, and
 // the number of the first fixed point in it.
-#[derive(Drop)]
+#[derive(Clone, Copy)]
 struct Head {
     sign: u8,
     at: u8,

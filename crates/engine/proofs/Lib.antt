@@ -1,3 +1,4 @@
 pub mod Starting
+pub mod SameWords
 pub mod ReadModel
 pub mod Examining

@@ -1,6 +1,9 @@
 // The check of a whole text: it is read and its bodies are prepared, its reached instances are found and
 // solved, and the start is judged. And its two parts apart: finding alone, and solving a list that is lent.
+#![tactic(auto)]
+
 ghost use Rattle.std.specs.Prelude.{◌∷◌, ◌≡◌, take};
+ghost use Rattle.meaning.specs.Solution.{same};
 ghost use Rattle.meaning.specs.Words.{word};
 ghost use Rattle.engine.specs.Examined.{judgement, number_found, whole, counted, ReadSomewhere};
 ghost use Rattle.engine.specs.Examined.{JudgesModel, ExaminesModel, Examines, Solves};
@@ -10,7 +13,7 @@ use formulas::Tuple;
 use reading::{Model, Start};
 
 // What a text gives: the answer, and the model that was read.
-#[derive(Drop)]
+#[derive(Clone, Copy)]
 pub struct Examined {
     pub answer: Answer,
     pub model: Model,
@@ -76,6 +79,23 @@ fn find_model(model: Model, bodies: &[u8], table: &mut [u32]) -> Answer
     tell(found.count)
 }
 
+// Whether two lists have the same words.
+fn are_same(a: &[u32], b: &[u32]) -> bool
+    ensures { result ≡ same a.now b.now }
+{
+    if a.len() != b.len() {
+        return false;
+    }
+    let mut i = 0;
+    while i < b.len() {
+        if a[i] != b[i] {
+            return false;
+        }
+        i += 1;
+    }
+    true
+}
+
 // The answer for a model that was read, with its bodies. Where a list is lent to be solved, it is compared
 // with what is found anew, and what is solved is that.
 fn examine_model(model: Model, bodies: &[u8], table: &mut [u32], list: &[u32], lent: bool) -> Answer
@@ -91,7 +111,7 @@ fn examine_model(model: Model, bodies: &[u8], table: &mut [u32], list: &[u32], l
     let mut graph = [0u64; 8272];
     let found = finding::find(&prepared, equations, start, table, &mut graph);
     let n = found.count;
-    let same = basics::implies(lent, words::are_same(list, &table[..n]));
+    let same = basics::implies(lent, are_same(list, &table[..n]));
     if basics::and(!found.over, same) {
         let truth = solving::solution_of(&prepared, equations, count, &table[..n], &graph);
         return judge(n, truth);

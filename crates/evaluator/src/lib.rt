@@ -2,6 +2,8 @@
 // formula inside it. A table of words says which instances have a number, and a set which of these are true.
 // Each value tells which variables were looked at for it: no other one matters, so a quantifier whose own
 // variable was not looked at has the same value for all of its values.
+#![tactic(auto)]
+
 mod leaves;
 mod tables;
 mod terms;
@@ -23,7 +25,7 @@ use tables::value_of;
 use values::{decides, joined, known};
 
 // The value of a formula or of an instance; Open where it is not known.
-#[derive(Drop)]
+#[derive(Clone, Copy)]
 pub enum Value {
     False,
     True,
@@ -31,21 +33,21 @@ pub enum Value {
 }
 
 // The value of a formula, and the variables that were looked at for it.
-#[derive(Drop)]
+#[derive(Clone, Copy)]
 pub struct Valued {
     pub value: Value,
     pub looked: u8,
 }
 
 // Whether a test holds, and the variables that were looked at for it.
-#[derive(Drop)]
+#[derive(Clone, Copy)]
 pub struct TestAt {
     pub holds: bool,
     pub looked: u8,
 }
 
 // The word of an instance, and the variables that were looked at for it.
-#[derive(Drop)]
+#[derive(Clone, Copy)]
 pub struct WordAt {
     pub word: u32,
     pub looked: u8,

@@ -11,14 +11,14 @@ use formulas::{TermKind, Tuple, is_range, item, push, term_kind_of};
 use prepared::{byte_at, end_at};
 
 // The value of a term, and the variables that were looked at for it.
-#[derive(Drop)]
+#[derive(Clone, Copy)]
 pub(crate) struct TermValue {
     pub(crate) value: u8,
     pub(crate) looked: u8,
 }
 
 // The values of some terms in a row, and the variables that were looked at for them.
-#[derive(Drop)]
+#[derive(Clone, Copy)]
 pub(crate) struct TermValues {
     pub(crate) values: Tuple,
     pub(crate) looked: u8,

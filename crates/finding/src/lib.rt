@@ -1,5 +1,7 @@
 // Finding the reached instances of a model: from the start on, those that are left in the right sides of the
 // instances found, in the order of finding. What each of them reads is drawn as a graph on the way.
+#![tactic(auto)]
+
 mod drawing;
 
 ghost use Rattle.std.specs.Prelude.{◌≤◌, min, ◌≡◌, ◌++◌, length, take, drop};
@@ -9,7 +11,7 @@ use drawing::draw_side;
 use formulas::Equation;
 
 // The words found: how many stand in the table, and whether one more was found than there is room.
-#[derive(Drop)]
+#[derive(Clone, Copy)]
 pub struct Found {
     pub count: usize,
     pub over: bool,

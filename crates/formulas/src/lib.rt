@@ -1,5 +1,7 @@
 // The reader of formulas: whether the bytes of a body are one formula, and whether the instances in it fit
 // the equations.
+#![tactic(auto)]
+
 mod codes;
 mod parameters;
 mod terms;
@@ -21,7 +23,7 @@ pub use tuples::{item, push};
 
 // An equation's record. Absent ranges are 1; `place` is that of the body's first digit in the text, `length`
 // the body's in bytes.
-#[derive(Drop)]
+#[derive(Clone, Copy)]
 pub struct Equation {
     pub sign: u8,
     pub k: u8,
@@ -30,7 +32,7 @@ pub struct Equation {
     pub length: usize,
 }
 
-#[derive(Drop)]
+#[derive(Clone, Copy)]
 pub enum Test {
     Equal,
     Less,
@@ -39,7 +41,7 @@ pub enum Test {
 }
 
 // What a code begins as a formula. A bool is true for the constant true, for `and` and for `for all`.
-#[derive(Drop)]
+#[derive(Clone, Copy)]
 pub enum Kind {
     NoFormula,
     Constant(bool),
@@ -50,7 +52,7 @@ pub enum Kind {
 }
 
 // What a code begins as a term. The bool is true for a sum.
-#[derive(Drop)]
+#[derive(Clone, Copy)]
 pub enum TermKind {
     NoTerm,
     Number,
@@ -60,7 +62,7 @@ pub enum TermKind {
 
 // At most eight bytes, the first `count` of `values`: values or ranges of the variables in reach, outermost
 // first, or arguments.
-#[derive(Drop)]
+#[derive(Clone, Copy)]
 pub struct Tuple {
     pub values: [u8; 8],
     pub count: usize,
@@ -68,7 +70,7 @@ pub struct Tuple {
 
 // Whether a formula was read, or some arguments; whether the instances in it fit, or the arguments; where it
 // ends.
-#[derive(Drop)]
+#[derive(Clone, Copy)]
 struct Span {
     ok: bool,
     fits: bool,

@@ -9,7 +9,7 @@ use crate::tuples::item;
 use crate::{TermKind, Tuple, is_range};
 
 // Whether a term was read, its range, and where it ends.
-#[derive(Drop)]
+#[derive(Clone, Copy)]
 pub(crate) struct TermSpan {
     pub(crate) ok: bool,
     pub(crate) range: u8,

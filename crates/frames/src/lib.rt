@@ -1,4 +1,6 @@
 // The frames of a text, line by line: read, and written.
+#![tactic(auto)]
+
 ghost use Rattle.std.specs.Prelude.{◌≡◌, ◌+◌, ◌-◌, ◌*◌, ◌≤◌, ◌<◌, leb, length, drop};
 ghost use Rattle.std.proofs.lemmas.List.Edits.{sets};
 ghost use Rattle.digits.specs.Digits.{digits_of};
@@ -8,7 +10,7 @@ ghost use Rattle.frames.specs.PutLine.{LinePut};
 
 // What stands in the line from a place on: the number of its refusal, 2 or 3, or 0; where the line ends; how
 // many bytes its frame has, and the bytes, zeros after them.
-#[derive(Drop)]
+#[derive(Clone, Copy)]
 pub struct FrameAt {
     pub number: u8,
     pub end: usize,

@@ -1,5 +1,7 @@
 // Gathering: the instances that are left in the right side of an instance are added to the words found; the
 // numbers of those that it reads and the way they are joined are told.
+#![tactic(auto)]
+
 mod shapes;
 mod walk;
 
@@ -12,7 +14,7 @@ use walk::gather;
 
 // What is left of a formula: a constant; one instance; instances joined by `and` alone (true) or by `or`
 // alone (false); or by both.
-#[derive(Drop)]
+#[derive(Clone, Copy)]
 pub enum Shape {
     Decided(bool),
     One,
@@ -22,7 +24,7 @@ pub enum Shape {
 
 // What was gathered of a right side: how many words are found then, the numbers of the instances that are
 // left in it, and its shape.
-#[derive(Drop)]
+#[derive(Clone, Copy)]
 pub struct Side {
     pub found: usize,
     pub reads: [u64; 8],

@@ -7,7 +7,7 @@ ghost use Rattle.gathering.specs.Gathered.{left_of, joined_parts};
 use crate::Shape;
 
 // The shape of what is left of a formula, and the variables that were looked at to know it.
-#[derive(Drop)]
+#[derive(Clone, Copy)]
 pub(crate) struct Left {
     pub shape: Shape,
     pub looked: u8,

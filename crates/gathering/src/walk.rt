@@ -17,7 +17,7 @@ use formulas::{Kind, Tuple};
 use prepared::{byte_at, end_at};
 
 // How many words are found after one was added, and its number among them.
-#[derive(Drop)]
+#[derive(Clone, Copy)]
 struct Added {
     found: usize,
     at: usize,

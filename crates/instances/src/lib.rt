@@ -1,5 +1,7 @@
 // The numbered system of a model's instances: the prepared bodies of its equations, what a word names among
 // them, and the right side of a word's instance in a set of instances.
+#![tactic(auto)]
+
 ghost use Rattle.std.specs.Prelude.{◌≡◌};
 ghost use Rattle.truth.specs.Bits.{bit_of};
 ghost use Rattle.words.specs.Unpacked.{equation_number};

@@ -1,4 +1,3 @@
 pub mod Agree
-pub mod Listed
 pub mod Lists
 pub mod Operation

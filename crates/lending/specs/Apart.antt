@@ -3,27 +3,27 @@
 -- Where `find` is not refused, what it leaves is the list, and solving that answers as `check`; where it is,
 -- `check` gives the same refusal.
 use Rattle.std.specs.Prelude.{ℕ, ◌≡◌, List, ◌++◌, length, take, drop}
-use Rattle.std.proofs.Common.{sym, ap, ◌∙◌, drop_at}
+use Rattle.std.proofs.Common.{sym, ◌∙◌, drop_at}
+use Rattle.std.proofs.Math.Path.{ap}
 use Rattle.reading.specs.Records.{reading}
 use Rattle.answers.specs.declared.Answer.{Answer}
-use Rattle.answers.specs.Answers.{refusal, room_of, checked}
-use Rattle.answers.specs.Demand1.{refusal_clear, verdict_given, kept_all}
-use Rattle.answers.specs.Apart.{found_words, find_then_solve}
+use Rattle.answers.specs.Answers.{refusal, checked}
+use Rattle.answers.specs.Demand1.{refusal_clear}
+use Rattle.answers.specs.Apart.{find_then_solve}
 use Rattle.lending.specs.declared.Record.{Record}
 use Rattle.lending.specs.declared.FindAnswer.{FindAnswer}
-use Rattle.lending.specs.Records.{records_of, counts_of, records_after, listed_words}
-use Rattle.lending.specs.RecordLaws.{filled_zero}
+use Rattle.lending.specs.Records.{find_answer, records_after, records_of}
+use Rattle.lending.specs.Records.{records_after_check, records_after_solve}
 use Rattle.lending.specs.Promises.{Found, Solved, Checked}
 use Rattle.lending.specs.Lent.{lent_after_find, records_counted}
 
 -- records that are filled, filled once more
-filled_again : (t words : List ℕ) (records : List Record)
-    → records_after t words 0 (records_after t words 0 records) ≡ records_after t words 0 records
+filled_again : (t : List ℕ) (records : List Record)
+    → records_after 0 (reading t).model (records_after 0 (reading t).model records)
+    ≡ records_after 0 (reading t).model records
 unfolding records_after
-filled_again t words records = rw filled_zero (ap
-    (λ (l : List Record). records_of (reading t).model (counts_of words) ++ l)
-    (drop_at (records_of (reading t).model (counts_of words)) (drop (reading t).model.count records) _
-    (records_counted t words)))
+filled_again t records = ap (λ (l : List Record). records_of (reading t).model ++ l)
+    (drop_at (records_of (reading t).model) (drop (reading t).model.count records) _ (records_counted t))
 
 module _ (t : List ℕ) (records : List Record) (table : List ℕ) {a : FindAnswer} {records_left : List Record}
     {table_left : List ℕ} (f : Found t records table a records_left table_left) where
@@ -43,21 +43,19 @@ module _ (t : List ℕ) (records : List Record) (table : List ℕ) {a : FindAnsw
   pub find_and_solve : a.number ≡ 0 → {b : Answer} {records_last : List Record}
       → Solved t records_left (take a.reached table_left) b records_last
       → (b.number ≡ 0) × Checked t records table b records_last table_left
+  unfolding records_after_check records_after_solve
   find_and_solve zero {b} {records_last} s =
       (number answers ∙ given, record { answered = answers; filled = fills; listed = f.listed })
     where
       number : {x y : Answer} → x ≡ y → x.number ≡ y.number
       number e = ap (λ (x : Answer). x.number) e
 
+      after : {n m : ℕ} (rs : List Record) → n ≡ m
+          → records_after n (reading t).model rs ≡ records_after m (reading t).model rs
+      after rs e = ap (λ (k : ℕ). records_after k (reading t).model rs) e
+
       given : (checked t (length records) (length table)).number ≡ 0
       given = rw f.answered at zero
-
-      -- the words that are solved are those that `find` lists, and so those that `check` lists
-      words : take a.reached table_left ≡ listed_words t (length table)
-      words =
-          let p = (verdict_given t (length records) (length table)).0 given in
-          rw (f.answered, f.listed) (found_words t (length records) table given)
-          ∙ sym (kept_all t (room_of (length table)) p.2)
 
       long : length records_left ≡ length records
       long = rw f.filled (lent_after_find t records (length table)).records_length
@@ -66,12 +64,8 @@ module _ (t : List ℕ) (records : List Record) (table : List ℕ) {a : FindAnsw
       answers = rw (long, f.answered, f.listed) at s.answered
           ∙ find_then_solve t (length records) table given
 
-      after : {n m : ℕ} (rs : List Record) → n ≡ m → records_after t (listed_words t (length table)) n rs
-          ≡ records_after t (listed_words t (length table)) m rs
-      after rs e = ap (λ (k : ℕ). records_after t (listed_words t (length table)) k rs) e
-
-      fills : records_last ≡ records_after t (listed_words t (length table))
-          (checked t (length records) (length table)).number records
-      fills = rw (number (sym s.answered ∙ answers) ∙ given, words) at s.filled
-          ∙ ap (records_after t (listed_words t (length table)) 0) (f.filled ∙ after records given)
-          ∙ filled_again t (listed_words t (length table)) records ∙ sym (after records given)
+      fills : records_last
+          ≡ records_after (checked t (length records) (length table)).number (reading t).model records
+      fills = s.filled ∙ after records_left (number (sym s.answered ∙ answers) ∙ given)
+          ∙ ap (records_after 0 (reading t).model) (f.filled ∙ after records given)
+          ∙ filled_again t records ∙ sym (after records given)

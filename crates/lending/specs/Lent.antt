@@ -1,111 +1,93 @@
--- THEOREMS: demand 1 for the lent records, after reading, checking, finding and solving: filled where nothing
--- is refused and on 9, else kept. Request 2026-06 amends 01 here, which kept them on 9 too.
--- One law over the words listed and the number answered, by the test in `records_after`; the numbers that
--- fill are answered only where eight are lent.
-use Rattle.std.specs.Prelude.{ℕ, ◌≤◌, ◌≡◌, Bool, cond, ◌⊎◌, take, drop}
-use Rattle.std.proofs.Common.{arith, ◌∙◌, ⊎_elim, length-append, length-drop, length-take-le}
+-- THEOREMS: demand 1 for the lent records, after reading, checking, finding and solving: kept on a refusal,
+-- else filled.
+-- One law over the number answered, by the test in `records_after`; 0 is answered only where eight are lent.
+use Rattle.std.specs.Prelude.{ℕ, ◌≤◌, ◌≡◌, Bool, cond, List, ◌++◌, take}
+use native.Mathlib.Omega.{arith}
 use Rattle.std.proofs.Math.Path.{refl}
+use Rattle.std.proofs.Common.{◌∙◌, length-take-le}
 use Rattle.std.proofs.Math.Bool.{true, false}
-use mathlib.Core.List.{List, [], ◌++◌}
-use Rattle.std.proofs.Math.Dec.{ltb}
-use Rattle.std.proofs.Math.ListN.{length}
-use borrow.Author.Tests.{ltb-false}
-use Rattle.meaning.specs.Logic.{never, eq→Is}
+use Rattle.std.proofs.Math.Dec.{eqb, ltb}
+use Rattle.std.proofs.Math.ListN.{length, drop, length-append, length-drop}
+use Rattle.std.proofs.lemmas.List.{length-map}
+use borrow.Author.Tests.{eqb-true, eqb-false, ltb-false}
 use Rattle.reading.specs.Records.{reading}
 use Rattle.reading.proofs.Finishing.{few, eight_equations}
 use Rattle.reading.proofs.WellFormed.{reading_drafted}
 use Rattle.answers.specs.Answers.{checked, solved}
-use Rattle.answers.specs.Demand1.{verdict_given, nine_given}
-use Rattle.answers.specs.Apart.{solving_given, never_nine}
+use Rattle.answers.specs.Demand1.{verdict_given}
+use Rattle.answers.specs.Apart.{solving_given}
 use Rattle.lending.specs.declared.Record.{Record}
 use Rattle.lending.specs.declared.ReadAnswer.{ReadAnswer}
-use Rattle.lending.specs.Records.{records_of, counts_of, are_filled, records_after, read_answer}
-use Rattle.lending.specs.Records.{find_answer, listed_words}
-use Rattle.lending.specs.RecordLaws.{records_from_length, filled_so, filled_by}
+use Rattle.lending.specs.Records.{record_of, records_of, read_answer, find_answer, records_after}
+use Rattle.lending.specs.Records.{records_after_read, records_after_check, records_after_solve}
 
--- the numbers that fill: no refusal, and 9
-abbrev pub Filling : ℕ → Type 0
-Filling number = (number ≡ 0) ⊎ (number ≡ 9)
-
--- what an operation that lists `words` and answers `number` to the text t leaves of the records lent
-pub record Lent (t words : List ℕ) (records : List Record) (number : ℕ) (left : List Record) : Type 0 where
-  -- 01: "and so do all records on any refusal, 9 included", amended: 9 excluded
-  pub records_stay : (number ≡ 0 → ⊥) → (number ≡ 9 → ⊥) → left ≡ records
-  -- "Reading fills a lent list of equation records"; "Records past the equation count stay as they were";
-  -- "Refusal 9 now leaves the records filled, with the words kept counted, amending 01"
-  pub records_filled : Filling number →
-      left ≡ records_of (reading t).model (counts_of words) ++ drop (reading t).model.count records
+-- what an operation that answers `number` to the text t leaves of the records lent
+pub record Lent (t : List ℕ) (records : List Record) (number : ℕ) (left : List Record) : Type 0 where
+  -- "and so do all records on any refusal, 9 included"
+  pub records_stay : (number ≡ 0 → ⊥) → left ≡ records
+  -- "Reading fills a lent list of equation records"; "Records past the equation count stay as they were"
+  pub records_filled : number ≡ 0 →
+      left ≡ records_of (reading t).model ++ drop (reading t).model.count records
   -- what is lent is given back at its length
   pub records_length : length left ≡ length records
 
 -- a record for each equation
-pub records_counted : (t words : List ℕ)
-    → length (records_of (reading t).model (counts_of words)) ≡ (reading t).model.count
+pub records_counted : (t : List ℕ) → length (records_of (reading t).model) ≡ (reading t).model.count
 unfolding records_of
-records_counted t words =
-    records_from_length (counts_of words) 0 (take (reading t).model.count (reading t).model.equations)
+records_counted t =
+    length-map (take (reading t).model.count (reading t).model.equations) record_of
     ∙ length-take-le (reading t).model.count (reading t).model.equations
     (omega (arith, few (reading_drafted t), eight_equations (reading_drafted t)))
 
 module _ (t : List ℕ) (records : List Record) where
-  lent_after : (words : List ℕ) (number : ℕ) → (Filling number → 8 ≤ length records)
-      → Lent t words records number (records_after t words number records)
+  lent_after : (number : ℕ) → (number ≡ 0 → 8 ≤ length records) →
+      Lent t records number (records_after number (reading t).model records)
   unfolding records_after
-  lent_after words number enough = by_number (are_filled number) refl
+  lent_after number enough = by_number (eqb number 0) refl
     where
-      unfilled : {b : Bool} → b ≡ false → b ≡ true → ⊥
-      unfilled {b} e f = never (rw e at (eq→Is f))
-
-      by_number : (b : Bool) → are_filled number ≡ b → Lent t words records number
-          (cond b (records_of (reading t).model (counts_of words) ++ drop (reading t).model.count records)
-          records)
+      by_number : (b : Bool) → eqb number 0 ≡ b →
+          Lent t records number
+          (cond b (records_of (reading t).model ++ drop (reading t).model.count records) records)
       by_number true e =
-          let so = filled_by number e in
+          let zero = eqb-true number 0 e in
           record {
-            records_stay = λ z n. absurd (⊎_elim z n so);
+            records_stay = λ n. absurd (n zero);
             records_filled = λ _. refl;
             records_length =
-                length-append (records_of (reading t).model (counts_of words))
-                (drop (reading t).model.count records)
+                length-append (records_of (reading t).model) (drop (reading t).model.count records)
                 ∙ omega (
                   arith,
-                  records_counted t words,
+                  records_counted t,
                   length-drop (reading t).model.count records,
                   few (reading_drafted t),
-                  enough so,
+                  enough zero,
                 );
           }
-      by_number false e = record {
-        records_stay = λ _ _. refl;
-        records_filled = λ so. absurd (unfilled e (filled_so so));
-        records_length = refl;
-      }
+      by_number false e =
+          let refused = eqb-false number 0 e in
+          record { records_stay = λ _. refl; records_filled = λ z. absurd (refused z); records_length = refl }
 
-  pub lent_after_read : Lent t [] records (read_answer t (length records)).number
-      (records_after t [] (read_answer t (length records)).number records)
-  unfolding read_answer
-  lent_after_read = lent_after [] _ (enough (ltb (length records) 8) refl)
+  pub lent_after_read : Lent t records (read_answer t (length records)).number (records_after_read t records)
+  unfolding records_after_read read_answer
+  lent_after_read = lent_after _ (enough (ltb (length records) 8) refl _)
     where
-      enough : (b : Bool) → ltb (length records) 8 ≡ b
-          → Filling (cond {A = ReadAnswer} b (record { number = 5; line = 0 })
-          (record { number = (reading t).number; line = (reading t).line })).number → 8 ≤ length records
-      enough true e f = absurd (⊎_elim (λ z. omega arith) (λ n. omega arith) f)
-      enough false e f = ltb-false (length records) 8 e
+      enough : (b : Bool) → ltb (length records) 8 ≡ b → (a : ReadAnswer) →
+          (cond {A = ReadAnswer} b (record { number = 5; line = 0 }) a).number ≡ 0 → 8 ≤ length records
+      enough true e a z = absurd (omega arith)
+      enough false e a z = ltb-false (length records) 8 e
 
-  pub lent_after_check : (words_lent : ℕ)
-      → Lent t (listed_words t words_lent) records (checked t (length records) words_lent).number
-      (records_after t (listed_words t words_lent) (checked t (length records) words_lent).number records)
-  lent_after_check words_lent = lent_after _ _ (⊎_elim
-      (λ z. ((verdict_given t (length records) words_lent).0 z).0)
-      (λ n. ((nine_given t (length records) words_lent).0 n).0))
+  pub lent_after_check : (words_lent : ℕ) →
+      Lent t records (checked t (length records) words_lent).number
+      (records_after_check t words_lent records)
+  unfolding records_after_check
+  lent_after_check words_lent = lent_after _ (λ z. ((verdict_given t (length records) words_lent).0 z).0)
 
-  pub lent_after_find : (words_lent : ℕ)
-      → Lent t (listed_words t words_lent) records (find_answer t (length records) words_lent).number
-      (records_after t (listed_words t words_lent) (find_answer t (length records) words_lent).number
-      records)
+  pub lent_after_find : (words_lent : ℕ) →
+      Lent t records (find_answer t (length records) words_lent).number
+      (records_after_check t words_lent records)
   lent_after_find = lent_after_check
 
-  pub lent_after_solve : (lent : List ℕ) → Lent t lent records (solved t (length records) lent).number
-      (records_after t lent (solved t (length records) lent).number records)
-  lent_after_solve lent = lent_after _ _ (⊎_elim (λ z. ((solving_given t (length records) lent).0 z).0)
-      (λ n. absurd (never_nine t (length records) lent n)))
+  pub lent_after_solve : (lent : List ℕ) →
+      Lent t records (solved t (length records) lent).number (records_after_solve t lent records)
+  unfolding records_after_solve
+  lent_after_solve lent = lent_after _ (λ z. ((solving_given t (length records) lent).0 z).0)

@@ -9,45 +9,42 @@ use Rattle.digits.specs.Digits.{in_small_letters}
 use Rattle.reading.specs.Letters.{reading_in_small}
 use Rattle.answers.specs.declared.Answer.{Answer}
 use Rattle.answers.specs.Answers.{checked, solved, table_after_check}
-use Rattle.answers.specs.Letters.{answer_in_small, list_in_small, table_in_small, solved_in_small}
+use Rattle.answers.specs.Letters.{answer_in_small, table_in_small, solved_in_small}
 use Rattle.lending.specs.declared.Record.{Record}
 use Rattle.lending.specs.declared.ReadAnswer.{ReadAnswer}
 use Rattle.lending.specs.declared.FindAnswer.{FindAnswer}
-use Rattle.lending.specs.Records.{read_answer, find_answer, records_after, listed_words}
+use Rattle.lending.specs.Records.{read_answer, find_answer, records_after_read, records_after_check}
+use Rattle.lending.specs.Records.{records_after_solve}
 use Rattle.lending.specs.Promises.{Read, Checked, Found, Solved}
 
 module _ (t : List ℕ) where
-  -- the records, after any operation
-  filled_in_small : (words : List ℕ) (number : ℕ) (records : List Record)
-      → records_after (in_small_letters t) words number records ≡ records_after t words number records
-  unfolding records_after
-  filled_in_small words number records = rw (reading_in_small t) refl
-
   -- ---- reading
   read_in_small : (lent : ℕ) → read_answer (in_small_letters t) lent ≡ read_answer t lent
   unfolding read_answer
   read_in_small lent = rw (reading_in_small t) refl
 
+  filled_in_small : (records : List Record)
+      → records_after_read (in_small_letters t) records ≡ records_after_read t records
+  unfolding records_after_read
+  filled_in_small records = rw (read_in_small (length records), reading_in_small t) refl
+
   pub read_alike : {records xs ys : List Record} {a b : ReadAnswer}
       → Read t records a xs → Read (in_small_letters t) records b ys → (a ≡ b) × (xs ≡ ys)
   read_alike {records} p q = (
     one_reply p.answered (q.answered ∙ read_in_small (length records)),
-    one_reply p.filled
-        (rw (read_in_small (length records)) at q.filled ∙ filled_in_small _ _ records),
+    one_reply p.filled (q.filled ∙ filled_in_small records),
   )
 
-  -- ---- checking and finding
+  -- ---- checking
   checked_in_small : (records words : ℕ)
       → checked (in_small_letters t) records words ≡ checked t records words
   unfolding checked
   checked_in_small records words = rw (answer_in_small t words) refl
 
   records_in_small : (words : ℕ) (records : List Record)
-      → records_after (in_small_letters t) (listed_words (in_small_letters t) words)
-      (checked (in_small_letters t) (length records) words).number records
-      ≡ records_after t (listed_words t words) (checked t (length records) words).number records
-  records_in_small words records =
-      rw (checked_in_small (length records) words, list_in_small t) (filled_in_small _ _ records)
+      → records_after_check (in_small_letters t) words records ≡ records_after_check t words records
+  unfolding records_after_check
+  records_in_small words records = rw (checked_in_small (length records) words, reading_in_small t) refl
 
   listed_in_small : (records : ℕ) (table : List ℕ)
       → table_after_check (in_small_letters t) records table ≡ table_after_check t records table
@@ -65,6 +62,7 @@ module _ (t : List ℕ) where
     ),
   )
 
+  -- ---- finding
   counts_in_small : (records words : ℕ)
       → find_answer (in_small_letters t) records words ≡ find_answer t records words
   counts_in_small records words = rw (checked_in_small records words) refl
@@ -81,15 +79,15 @@ module _ (t : List ℕ) where
   )
 
   -- ---- solving
-  solution_in_small : (records : ℕ) (lent : List ℕ)
+  list_in_small : (records : ℕ) (lent : List ℕ)
       → solved (in_small_letters t) records lent ≡ solved t records lent
   unfolding solved
-  solution_in_small records lent = rw (solved_in_small t lent) refl
+  list_in_small records lent = rw (solved_in_small t lent) refl
 
   pub solve_alike : (lent : List ℕ) {records xs ys : List Record} {a b : Answer}
       → Solved t records lent a xs → Solved (in_small_letters t) records lent b ys → (a ≡ b) × (xs ≡ ys)
+  unfolding records_after_solve
   solve_alike lent {records} p q = (
-    one_reply p.answered (q.answered ∙ solution_in_small (length records) lent),
-    one_reply p.filled
-        (rw (solution_in_small (length records) lent) at q.filled ∙ filled_in_small _ _ records),
+    one_reply p.answered (q.answered ∙ list_in_small (length records) lent),
+    one_reply p.filled (rw (list_in_small (length records) lent, reading_in_small t) at q.filled),
   )

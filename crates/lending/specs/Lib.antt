@@ -1,9 +1,6 @@
 pub mod Records
-pub mod RecordLaws
 pub mod Promises
 pub mod Prepared
 pub mod Lent
-pub mod Counted
 pub mod Apart
 pub mod Letters
-pub mod Samples

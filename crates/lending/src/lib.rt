@@ -1,11 +1,13 @@
 // The operations on a text that are lent records: what is lent, what comes back. Each prepares an answer and
 // the records that go with it, then writes these in one place.
-ghost use Rattle.std.specs.Prelude.{◌≡◌, ◌<◌, ◌≤◌, length, get_or};
+#![tactic(auto)]
+
+ghost use Rattle.std.specs.Prelude.{◌≡◌, map, ◌<◌, ◌≤◌, length, get_or};
 ghost use Rattle.answers.specs.Answers.{refusal};
 ghost use Rattle.engine.specs.Examined.{whole};
-ghost use Rattle.lending.specs.Records.{record_of, records_from, counts_of, read_from, find_from};
+ghost use Rattle.lending.specs.Records.{record_of, read_from, find_from};
 ghost use Rattle.lending.specs.Promises.{Read, Checked, Found, Solved};
-ghost use Rattle.lending.specs.Prepared.{blank, overwritten, prepared, listed_count, filled_count};
+ghost use Rattle.lending.specs.Prepared.{blank, overwritten, prepared};
 ghost use Rattle.lending.specs.Prepared.{ReadPrepared, TablePrepared, SolvePrepared};
 
 use answers::Answer;
@@ -13,26 +15,25 @@ use formulas::Equation;
 use reading::Model;
 
 // An equation as reading lends it: absent ranges are 1; place is that of the body's first digit in the text,
-// length the body's bytes, count how many words of the list have this equation.
-#[derive(Drop)]
+// length the body's bytes.
+#[derive(Clone, Copy)]
 pub struct Record {
     pub sign: u8,
     pub k: u8,
     pub ranges: [u8; 4],
     pub place: usize,
     pub length: usize,
-    pub count: usize,
 }
 
 // The refusal that reading a text gives; both are 0 where it gives none.
-#[derive(Drop)]
+#[derive(Clone, Copy)]
 pub struct ReadAnswer {
     pub number: u8,
     pub line: usize,
 }
 
 // The refusal that finding gives, or how many instances are reached; everything else is 0.
-#[derive(Drop)]
+#[derive(Clone, Copy)]
 pub struct FindAnswer {
     pub number: u8,
     pub line: usize,
@@ -40,7 +41,7 @@ pub struct FindAnswer {
 }
 
 // An answer, and the first `count` of `records` that are to be written with it.
-#[derive(Drop)]
+#[derive(Clone, Copy)]
 struct Prepared {
     answer: Answer,
     count: usize,
@@ -141,8 +142,7 @@ fn prepare_read(text: &[u8], room: usize) -> Prepared
         return refuse_short_list();
     }
     let r = reading::read_model(text);
-    let no_words = [0u32; 0];
-    prepare(answers::refuse(r.number, r.line), r.model, &no_words)
+    prepare(answers::refuse(r.number, r.line), r.model)
 }
 
 // Judges the length of the lent list first, then examines the text; the table is touched only there.
@@ -154,8 +154,7 @@ fn prepare_check(text: &[u8], room: usize, table: &mut [u32]) -> Prepared
         return refuse_short_list();
     }
     let e = engine::examine(text, table);
-    let n = listed_count(e.answer, table.len());
-    prepare(e.answer, e.model, &table[..n])
+    prepare(e.answer, e.model)
 }
 
 // The same for finding.
@@ -167,8 +166,7 @@ fn prepare_find(text: &[u8], room: usize, table: &mut [u32]) -> Prepared
         return refuse_short_list();
     }
     let e = engine::find(text, table);
-    let n = listed_count(e.answer, table.len());
-    prepare(e.answer, e.model, &table[..n])
+    prepare(e.answer, e.model)
 }
 
 // And for solving a list.
@@ -179,41 +177,19 @@ fn prepare_solve(text: &[u8], room: usize, list: &[u32]) -> Prepared
         return refuse_short_list();
     }
     let e = engine::solve(text, list);
-    let n = listed_count(e.answer, list.len());
-    prepare(e.answer, e.model, &list[..n])
+    prepare(e.answer, e.model)
 }
 
-// How many words of a table or a list of so many are listed with an answer: on 9 they fill the room, on
-// another refusal there are none.
-fn listed_count(answer: Answer, lent: usize) -> usize
-    ensures { result ≡ listed_count answer lent }
-{
-    if answer.number == 9 {
-        return basics::smaller(lent, 512);
-    }
-    answer.reached
-}
-
-// How many of so many records are to be written with a number: on a refusal none, but on 9.
-fn filled_count(number: u8, count: usize) -> usize
-    ensures { result ≡ filled_count number count }
-{
-    if number == 0 {
-        return count;
-    }
-    if number == 9 {
-        return count;
-    }
-    0
-}
-
-// What goes with an answer, where these words are listed.
-fn prepare(answer: Answer, model: Model, listed: &[u32]) -> Prepared
-    ensures { result ≡ prepared answer model listed.now }
+// On a refusal no record is to be written.
+fn prepare(answer: Answer, model: Model) -> Prepared
+    ensures { result ≡ prepared answer model }
 {
     let equations = model.equations;
-    let records = records_of(equations, listed);
-    let count = filled_count(answer.number, model.count);
+    let records = records_of(equations);
+    let mut count = model.count;
+    if answer.number != 0 {
+        count = 0;
+    }
     Prepared {
         answer,
         count,
@@ -233,23 +209,22 @@ fn refuse_short_list() -> Prepared
     }
 }
 
-// The records of the equations, each with how many of the words listed have it.
-fn records_of(equations: [Equation; 8], listed: &[u32]) -> [Record; 8]
-    ensures { result ≡ records_from 0 equations (counts_of listed.now) }
+fn records_of(equations: [Equation; 8]) -> [Record; 8]
+    ensures { result ≡ map record_of equations }
 {
     let none = no_record();
     let mut records = [none; 8];
     let mut i: usize = 0;
     while i < 8 {
-        let r = record_of(equations[i], words::count_with(i, listed));
+        let r = record_of(equations[i]);
         records[i] = r;
         i += 1;
     }
     records
 }
 
-fn record_of(e: Equation, count: usize) -> Record
-    ensures { result ≡ record_of e count }
+fn record_of(e: Equation) -> Record
+    ensures { result ≡ record_of e }
 {
     let ranges = e.ranges;
     Record {
@@ -258,7 +233,6 @@ fn record_of(e: Equation, count: usize) -> Record
         ranges,
         place: e.place,
         length: e.length,
-        count,
     }
 }
 
@@ -269,6 +243,5 @@ fn no_record() -> Record {
         ranges: [0; 4],
         place: 0,
         length: 0,
-        count: 0,
     }
 }

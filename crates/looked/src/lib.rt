@@ -1,5 +1,7 @@
 // Which variables were looked at for a value: a set of at most eight of them in one byte. A variable past the
 // eighth counts as looked at.
+#![tactic(auto)]
+
 ghost use Rattle.std.specs.Prelude.{◌≡◌};
 ghost use Rattle.looked.specs.Looked.{only, both, looks_at};
 

@@ -1,5 +1,7 @@
 // The nested solver: a numbered system of instances solved equation by equation, each by candidates that
 // follow one another until none differs from the one before it.
+#![tactic(auto)]
+
 ghost use Rattle.std.specs.Prelude.{◌≡◌, ◌-◌, ◌≤◌, min, length, take};
 ghost use Rattle.truth.specs.Bits.{bit_of, nowhere};
 ghost use Rattle.instances.specs.Sides.{numbered_system};

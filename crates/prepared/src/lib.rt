@@ -1,5 +1,7 @@
 // Bodies prepared for evaluation: beside the bytes of a body stands where the formula or term that begins at
 // a place ends.
+#![tactic(auto)]
+
 ghost use Rattle.std.specs.Prelude.{◌≡◌};
 ghost use Rattle.prepared.specs.Prepared.{byte_at, end_at};
 

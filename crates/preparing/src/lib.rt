@@ -1,5 +1,7 @@
 // Preparing the bodies of a model's equations: where each formula and each term in them ends is found once,
 // from the last place to the first.
+#![tactic(auto)]
+
 mod codes;
 
 ghost use Rattle.std.specs.Prelude.{◌+◌, ◌≤◌, ◌<◌, ◌≡◌, ◌++◌, length, drop};

@@ -1,5 +1,7 @@
 // The printed lines: what the checking program prints for a text, written into a lent buffer; and the same
 // for a list that is solved.
+#![tactic(auto)]
+
 ghost use Rattle.std.specs.Prelude.{◌≡◌, ◌+◌, ◌*◌, ◌/◌, ◌%◌, ◌≤◌, ◌<◌, length};
 ghost use Rattle.answers.specs.Printed.{verdict_frame, refusal_frame};
 ghost use Rattle.printing.specs.Promise.{Written, SolvedWritten};
@@ -13,7 +15,7 @@ use engine::Examined;
 use formulas::Equation;
 
 // The bytes of a frame: the first `count`.
-#[derive(Drop)]
+#[derive(Clone, Copy)]
 struct Frame {
     bytes: [u8; 8],
     count: usize,

@@ -1,4 +1,6 @@
 // The reader of processes: any text in, a refusal with its line or the frames of a process and a formula out.
+#![tactic(auto)]
+
 mod modals;
 mod scopes;
 mod summands;
@@ -17,7 +19,7 @@ use summands::{is_process, is_summand};
 // Number and line are those of the refusal, both 0 where there is none. `frames` has 18 places of 256 bytes:
 // in the first the process, then the summands, in the last the formula; zeros where nothing is. All are zeros
 // after a refusal.
-#[derive(Drop)]
+#[derive(Clone, Copy)]
 pub struct Input {
     pub number: u8,
     pub line: usize,
@@ -25,7 +27,7 @@ pub struct Input {
 }
 
 // What the lines give: a refusal, or number 0.
-#[derive(Drop)]
+#[derive(Clone, Copy)]
 struct Outcome {
     number: u8,
     line: usize,

@@ -1,4 +1,6 @@
 // The reader of model texts: any bytes in, a refusal with its line or a model out.
+#![tactic(auto)]
+
 mod drafting;
 mod ending;
 mod heads;
@@ -14,7 +16,7 @@ use formulas::Equation;
 use judging::frame_refusal;
 
 // A start's line, its equation, how many arguments it has, and the first four of them.
-#[derive(Drop)]
+#[derive(Clone, Copy)]
 pub struct Start {
     pub line: usize,
     pub equation: u8,
@@ -24,7 +26,7 @@ pub struct Start {
 
 // The first `count` of `equations` are the equations so far, the first `count` of `lines` are theirs; `start`
 // is the start, where `started`.
-#[derive(Drop)]
+#[derive(Clone, Copy)]
 pub struct Model {
     pub count: usize,
     pub equations: [Equation; 8],
@@ -34,7 +36,7 @@ pub struct Model {
 }
 
 // Number and line are 0 where the model was read; the body of equation j stands from 256 * j on of `bodies`.
-#[derive(Drop)]
+#[derive(Clone, Copy)]
 pub struct Reading {
     pub number: u8,
     pub line: usize,
@@ -43,7 +45,7 @@ pub struct Reading {
 }
 
 // What the lines give: a refusal, or a model.
-#[derive(Drop)]
+#[derive(Clone, Copy)]
 struct Outcome {
     number: u8,
     line: usize,

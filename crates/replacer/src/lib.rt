@@ -1,4 +1,6 @@
 // A model's text with one right side replaced, notes and order kept, written into a lent buffer.
+#![tactic(auto)]
+
 mod command;
 
 ghost use Rattle.std.specs.Prelude.{◌≡◌, ◌++◌, ◌+◌, ◌-◌, ◌*◌, ◌≤◌, length, take, drop};

@@ -6,6 +6,8 @@
 // decimal digits for the equation, and the new right side and 0a; the third and fourth digit of the head say
 // how many bytes it has. Behind those of 03 and 04 comes what the crate `sampling` reads.
 // README.md beside this folder says what the texts are and how the expected output was made.
+#![tactic(auto)]
+
 ghost use Rattle.std.specs.Prelude.{◌≡◌, length};
 
 // Reads a text as long as the buffer and prints its answer.

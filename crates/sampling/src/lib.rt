@@ -2,6 +2,8 @@
 // four hexadecimal digits says how many words are lent to find in, or how many the list has; in the second
 // case a line of eight digits follows for each word; then the text. What comes of it is printed, and an empty
 // line.
+#![tactic(auto)]
+
 ghost use Rattle.std.specs.Prelude.{◌≡◌, ◌≤◌, ◌<◌, length};
 
 // As many bytes as the longest answer takes.

@@ -1,6 +1,8 @@
 // The right sides of a translated model, put as bytes: a formula calls on the formulas inside it, a box or a
 // diamond once for each matching summand. The steps around a formula stand in a list of two bytes for each:
 // the place of its summand in the sheet, and how many quantifiers are around it.
+#![tactic(auto)]
+
 mod parts;
 mod putting;
 
@@ -14,7 +16,7 @@ use putting::{either_code, put, put_quantifiers};
 
 // A condition or a term at a place of the frame of a step's summand; the condition is negated where `flip`.
 // Steps count from 1.
-#[derive(Drop)]
+#[derive(Clone, Copy)]
 struct Part {
     at: u8,
     step: u8,
@@ -23,7 +25,7 @@ struct Part {
 
 // Where a formula stands, counted from the first byte of the formula's frame; the number of its first fixed
 // point; how many steps and how many quantifiers are around it.
-#[derive(Drop)]
+#[derive(Clone, Copy)]
 struct Spot {
     at: u8,
     number: u8,

@@ -1,5 +1,7 @@
 // The truth of the reached instances: by rounds with a set of dirty instances, and by the nested solver where
 // these would take too long.
+#![tactic(auto)]
+
 mod rounds;
 mod steps;
 

@@ -12,7 +12,7 @@ use crate::steps::{Progress, is_greatest, look, set_back};
 use formulas::Equation;
 
 // The set of the last round; done: nothing was left dirty.
-#[derive(Drop)]
+#[derive(Clone, Copy)]
 pub(crate) struct Outcome {
     pub done: bool,
     pub truth: [u64; 8],

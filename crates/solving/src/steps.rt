@@ -8,7 +8,7 @@ use formulas::Equation;
 
 // A set that comes nearer to the solution, the instances that are dirty, how many looks are left, and whether
 // an instance has changed in this round. An instance that is not dirty has its right side.
-#[derive(Drop)]
+#[derive(Clone, Copy)]
 pub(crate) struct Progress {
     pub truth: [u64; 8],
     pub dirty: [u64; 8],

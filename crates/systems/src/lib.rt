@@ -1,1 +1,2 @@
 // Systems whose instances are numbered, and their solutions: definitions and laws in specs/, and no code.
+#![tactic(auto)]

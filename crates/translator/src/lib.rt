@@ -1,4 +1,6 @@
 // From a process and a formula to a model: the text of the model is written into a lent buffer.
+#![tactic(auto)]
+
 ghost use Rattle.translator.specs.Answers.{Translates};
 ghost use Rattle.translator.specs.Printed.{PrintsTranslation};
 

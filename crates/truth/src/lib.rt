@@ -1,5 +1,7 @@
 // A set of at most 512 instances, in eight words: instance j is bit j % 64 of word j / 64. Rows of such sets
 // stand one after the other in a list of words.
+#![tactic(auto)]
+
 mod rows;
 
 ghost use Rattle.std.specs.Prelude.{◌≡◌};

@@ -2,7 +2,6 @@
 -- Each contract is an equation of the whole result.
 use Rattle.std.specs.Prelude.{ℕ, ◌≡◌, Bool, List, ◌∷◌}
 use Rattle.meaning.specs.OneReply.{one_reply}
-use Rattle.meaning.specs.Solution.{same}
 use Rattle.meaning.specs.Words.{word}
 use Rattle.formulas.specs.declared.Tuple.{Tuple}
 use Rattle.formulas.specs.Tuples.{items}
@@ -22,6 +21,3 @@ one_argument_tuple w k = one_reply
 pub one_count_with : (equation : ℕ) (list : List ℕ) {r s : ℕ}
     → r ≡ count_with equation list → s ≡ count_with equation list → r ≡ s
 one_count_with equation list = one_reply
-
-pub one_are_same : (a b : List ℕ) {r s : Bool} → r ≡ same a b → s ≡ same a b → r ≡ s
-one_are_same a b = one_reply

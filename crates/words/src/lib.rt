@@ -1,7 +1,7 @@
-// The word of an instance, packed and unpacked; lists of words: how many have an equation, and whether two
-// are the same.
+// The word of an instance, packed and unpacked; and how many words of a list have an equation.
+#![tactic(auto)]
+
 ghost use Rattle.std.specs.Prelude.{◌≡◌, ◌∷◌};
-ghost use Rattle.meaning.specs.Solution.{same};
 ghost use Rattle.meaning.specs.Words.{word};
 ghost use Rattle.formulas.specs.Tuples.{items};
 ghost use Rattle.words.specs.Unpacked.{equation_number, argument_tuple};
@@ -61,21 +61,4 @@ pub fn count_with(equation: usize, list: &[u32]) -> usize
         i += 1;
     }
     count
-}
-
-// Whether two lists have the same words.
-pub fn are_same(a: &[u32], b: &[u32]) -> bool
-    ensures { result ≡ same a.now b.now }
-{
-    if a.len() != b.len() {
-        return false;
-    }
-    let mut i = 0;
-    while i < b.len() {
-        if a[i] != b[i] {
-            return false;
-        }
-        i += 1;
-    }
-    true
 }

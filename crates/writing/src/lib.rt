@@ -1,11 +1,13 @@
 // What all operations share that write a text into a lent buffer: the reply, the bytes put, and what a
 // command prints of a reply.
+#![tactic(auto)]
+
 ghost use Rattle.std.specs.Prelude.{◌≡◌, ◌+◌, leb};
 ghost use Rattle.writing.specs.Writing.{refusal_reply, BytesPut};
 ghost use Rattle.writing.specs.Printed.{Shows};
 
 // The refusal, number and line 0 where there is none; and how many bytes were written, 0 after a refusal.
-#[derive(Drop)]
+#[derive(Clone, Copy)]
 pub struct Writing {
     pub number: u8,
     pub line: usize,

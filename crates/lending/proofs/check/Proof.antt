@@ -1,5 +1,6 @@
 -- `lending::check` meets its contract: it is the operation whose prepare is `prepare_check` and whose answer is `answer_of`.
 -- It lends one table, at the third lifetime of its signature.
+use mathlib.Core.Path.{refl}
 use mathlib.Core.List.{[], ◌∷◌}
 use Rattle.answers.specs.contracts.Answer.{the_type}
 use Rattle.answers.proofs.Answer.TheLaws.{the_laws}
@@ -25,7 +26,7 @@ checking = record {
   answer = λ p. p.answer;
   promises = λ t rs us r zs vs. Checked t rs us.0 r zs vs.0;
   few = λ e. e.fills.few;
-  kept = λ rs e. record { answered = e.answers; filled = e.fills.leaves rs; listed = e.listed };
+  kept = λ rs e. record { answered = e.answers; filled = e.fills.leaves rs refl; listed = e.listed };
 }
 
 pub check_spec : {M : Type 1} → statement M

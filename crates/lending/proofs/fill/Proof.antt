@@ -131,7 +131,7 @@ module _ {M : Type 1} {𝓤 : Ura M} (𝓛 : Logic 𝓤) (mem : Memory → SProp
           (init ! 2 refl (tt, record { fits = omega (arith, small, few) })) $
           assigns ! (bin ! (load ! (from ! (fld ! refl (stop !))) (look_in ! 7 (sub ! 0 refl (whole !)))) (cell ! 2 refl) tt)
           (from ! (stop !)) (init ! 1 refl (tt, tt)) $
-          rewrite ! 1 (λ (k : ℕ). ‵ (fat full_share ty_ptr bs.1.1.1.1.1.1.1.0 0 (vptr b k))) (sym (place_is 32 o i))
+          rewrite ! 1 (λ (k : ℕ). ‵ (fat full_share ty_ptr bs.1.1.1.1.1.1.1.0 0 (vptr b k))) (sym (place_is 24 o i))
           refl $ move ! (8 ∷ []) $ elem_out ! R (Is R) (shows 𝓛 R) (struct.vals R-type R-laws)
           (struct.tells R-type R-laws) full_share (after i) i r b o (within i small) (λ _.
           -- [records[i]; what it owns; the other records; what the record owns; place; ..]

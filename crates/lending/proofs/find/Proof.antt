@@ -1,5 +1,6 @@
 -- `lending::find` meets its contract: it is the operation whose prepare is `prepare_find` and whose answer is `find_answer_of`.
 -- It lends one table, at the third lifetime of its signature.
+use mathlib.Core.Path.{refl}
 use mathlib.Core.List.{[], ◌∷◌}
 use Rattle.lending.specs.Records.{find_from}
 use Rattle.lending.specs.Promises.{Found}
@@ -25,7 +26,7 @@ finding = record {
   answer = λ p. find_from p.answer;
   promises = λ t rs us r zs vs. Found t rs us.0 r zs vs.0;
   few = λ e. e.fills.few;
-  kept = λ rs e. record { answered = e.answers; filled = e.fills.leaves rs; listed = e.listed };
+  kept = λ rs e. record { answered = e.answers; filled = e.fills.leaves rs refl; listed = e.listed };
 }
 
 pub find_spec : {M : Type 1} → statement M

@@ -1,5 +1,6 @@
 -- `lending::read` meets its contract: it is the operation whose prepare is `prepare_read` and whose answer is `read_answer_of`.
 -- It lends no table.
+use mathlib.Core.Path.{refl}
 use mathlib.Core.List.{[]}
 use Rattle.lending.specs.Promises.{Read}
 use Rattle.lending.specs.Records.{read_from}
@@ -24,7 +25,7 @@ reading = record {
   answer = λ p. read_from p.answer;
   promises = λ t rs _ r zs _. Read t rs r zs;
   few = λ e. e.fills.few;
-  kept = λ rs e. record { answered = e.answers; filled = e.fills.leaves rs };
+  kept = λ rs e. record { answered = e.answers; filled = e.fills.leaves rs refl };
 }
 
 pub read_spec : {M : Type 1} → statement M

@@ -1,5 +1,6 @@
 -- `lending::solve` meets its contract: it is the operation whose prepare is `prepare_solve` and whose answer is `answer_of`.
 -- It is shown one list, at the third lifetime of its signature.
+use mathlib.Core.Path.{refl}
 use mathlib.Core.List.{[], ◌∷◌}
 use Rattle.answers.specs.contracts.Answer.{the_type}
 use Rattle.answers.proofs.Answer.TheLaws.{the_laws}
@@ -24,7 +25,7 @@ solving = record {
   answer = λ p. p.answer;
   promises = λ t rs us r zs _. Solved t rs us.0 r zs;
   few = λ e. e.fills.few;
-  kept = λ rs e. record { answered = e.answers; filled = e.fills.leaves rs };
+  kept = λ rs e. record { answered = e.answers; filled = e.fills.leaves rs refl };
 }
 
 pub solve_spec : {M : Type 1} → statement M

@@ -1,4 +1,4 @@
--- `words::are_same` meets its contract: lists of one length with the same word at each place are equal.
+-- `engine::are_same` meets its contract: lists of one length with the same word at each place are equal.
 -- Before turn i the words below i are the same.
 use Prim.Native.Nat.{ℕ, ◌≤◌, ◌<◌, ◌-◌}
 use mathlib.Core.Path.{◌≡◌, ap}
@@ -7,9 +7,9 @@ use native.Mathlib.Omega.{arith}
 use lib.ListN.{length, get_or}
 use lib.Seq.{ext_get_or}
 use borrow.Author.Count.{below_none, below_more}
-use Rattle.words.proofs.SameWords.{equal_same, unequal_same}
-use Rattle.words.proofs.are_same.Statement.{statement}
-use Rattle.words.proofs.are_same.Tie as tie
+use Rattle.engine.proofs.SameWords.{equal_same, unequal_same}
+use Rattle.engine.proofs.are_same.Statement.{statement}
+use Rattle.engine.proofs.are_same.Tie as tie
 
 abbrev invariant-loop : tie.invariant-loop
 invariant-loop a b i₀ i = (i ≤ length b) × ((length a ≡ length b) × ((k : ℕ) → k < i → get_or a k 0 ≡ get_or b k 0))
