@@ -6,15 +6,11 @@ use mathlib.Core.Path.{◌≡◌}
 use lib.Dec.{leb, ltb}
 use borrow.Author.Rules.{rules}
 use Rattle.frames.proofs.At.{same_leb}
-use Rattle.frames.proofs.fits.Statement.{statement}
-use Rattle.frames.proofs.fits.Tie as tie
+use Rattle.frames.proofs.fits.Goals as goal
 
 half : (room at count left : ℕ) → left ≡ room - at → ltb count (left - left / 2) ≡ leb (at + (2 * count + 1)) room
 half room at count left e =
     same_leb (suc count) (left - left / 2) (at + (2 * count + 1)) room (λ h. omega arith) (λ h. omega arith)
 
-returns : tie.Need-returns
-returns c = let a = c.before.args in half a.room a.at a.count _ c.rest.ensures
-
-pub fits_spec : {M : Type 1} → statement M
-fits_spec = tie.close (tie.spec (λ c κs. search rules) (λ c. search rules) returns)
+pub returns : goal.returns
+returns c = let a = c.args in half a.room a.at a.count _ c.rest-left.ensures
