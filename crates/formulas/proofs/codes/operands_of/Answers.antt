@@ -1,0 +1,9 @@
+-- `formulas::operands_of` meets its contract.
+-- The second column is the definition's.
+use Rattle.formulas.proofs.Columns.{operands_in}
+use mathlib.Core.Path.{◌∙◌}
+use borrow.Author.Rules.{rules}
+use Rattle.formulas.proofs.codes.operands_of.Goals as goal
+
+pub returns : goal.returns
+returns c = c.entry.ensures ∙ operands_in c.args.code

@@ -1,0 +1,19 @@
+-- `truth::count` meets its contract: the ones of the words passed are the count of the bits below their end.
+-- Each word adds its own ones.
+use mathlib.Core.Path.{◌≡◌, refl, sym, ap, ◌∙◌}
+use borrow.Author.Rules.{rules}
+use mir.Syntax.{w64}
+use mir.Val.{Fits}
+use lib.ListN.{get_or}
+use lib.Count.{ones, ones-le}
+use Rattle.truth.proofs.Bits.{count_word}
+use Prim.Native.Nat.{ℕ, ◌≤◌, ◌+◌, ◌-◌, ◌*◌}
+use native.Mathlib.Omega.{arith}
+use Rattle.truth.specs.Bits.{bit_of, count_below}
+use Rattle.truth.proofs.count.Given as goal
+
+abbrev pub invariant-loop-word : goal.invariant-loop-word
+invariant-loop-word l = (l.word ≤ 8) × (l.n ≡ count_below (l.word * 64) (bit_of l.t)) × (l.n ≤ l.word * 64)
+
+abbrev pub decreases-loop-word : goal.decreases-loop-word
+decreases-loop-word l = 8 - l.word
