@@ -17,9 +17,7 @@ read_formula-requires c = (c.if-size-gt256.false, omega (arith, c.parameters_of.
 
 pub returns : goal.returns
 returns c =
-    let scope = c.before.before in
-    let few = scope.before.before in
-    let a = few.args in
-    let p = scope.parameters_of.ensures in
-    body_read a.body.now a.e a.equations a.count few.if-size-gt256.false scope.signatures_of-signatures.ensures p.0
+    let a = c.args in
+    let p = c.parameters_of.ensures in
+    body_read a.body.now a.e a.equations a.count c.if-size-gt256.false c.signatures_of-signatures.ensures p.0
     p.1.0 (told_whole (omega arith) (c.read_formula.ensures.tells (length a.body.now) (omega arith)))

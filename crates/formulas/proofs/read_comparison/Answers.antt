@@ -14,7 +14,6 @@ returns-then-not-a c =
 
 pub returns : goal.returns
 returns c =
-    let second = c.before in
     rw c.result-2.ensures
-    (law.terms_map (law.two_terms second.read_term-a.ensures (not-false _ second.if-not-a.false)
-    second.read_term-b.ensures) (λ _ _. refl))
+    (law.terms_map (law.two_terms c.read_term-a.ensures (not-false _ c.if-not-a.false)
+    c.read_term-b.ensures) (λ _ _. refl))

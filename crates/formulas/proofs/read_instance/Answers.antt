@@ -15,18 +15,13 @@ returns-then-c-gt4 c = rw c.result.ensures (instance_no c.element-c.ensures c.if
 
 pub returns : goal.returns
 returns c =
-    let both = c.before.before in
-    let last = both.before in
-    let few = last.before.before.before.before.before in
-    let x = few.before.before in
-    let start = x.before.before.before in
-    let table = start.args.signatures.now in
-    let e = x.wide-x.result in
-    instance_read few.element-c.ensures few.if-c-gt4.false (x.wide-x.ensures.0 ∙ x.element.ensures)
-    (rw start.requires.1.1 at c.read_arguments.ensures)
+    let table = c.args.signatures.now in
+    let e = c.wide-x.result in
+    instance_read c.element-c.ensures c.if-c-gt4.false (c.wide-x.ensures.0 ∙ c.element.ensures)
+    (rw c.requires.1.1 at c.read_arguments.ensures)
     (λ ts long r. r ∙ rw (
-      both.and-named.ensures,
-      last.element-k.ensures,
-      last.wide-count.ensures.0,
-      last.element-2.ensures,
-    ) (named_fits table e ts (items start.args.scope) long (ltb e (get_or table 40 0)) refl))
+      c.and-named.ensures,
+      c.element-k.ensures,
+      c.wide-count.ensures.0,
+      c.element-2.ensures,
+    ) (named_fits table e ts (items c.args.scope) long (ltb e (get_or table 40 0)) refl))

@@ -14,11 +14,10 @@ returns-then-code-lt16 c = rw (lt-leb _ _ c.if-code-lt16.true) refl
 pub returns-then-code-gt35 : goal.returns-then-code-gt35
 returns-then-code-gt35 c =
     let a = c.args in
-    let size : length a.t1 ≡ 20 = search rules in
+    let size : length a.column ≡ 20 = search rules in
     rw (le-leb _ _ c.if-code-lt16.false)
-    (sym (get_or-eq_default a.t1 0 {n = a.code - 0x10} (omega (arith, size, c.if-code-gt35.true))))
+    (sym (get_or-eq_default a.column 0 {n = a.code - 0x10} (omega (arith, size, c.if-code-gt35.true))))
 
 pub returns : goal.returns
 returns c =
-    let test = c.before.before in
-    rw (le-leb _ _ test.if-code-lt16.false) (ap (λ (i : ℕ). get_or test.args.column i 0) c.wide-i.ensures.0)
+    rw (le-leb _ _ c.if-code-lt16.false) (ap (λ (i : ℕ). get_or c.args.column i 0) c.wide-i.ensures.0)

@@ -15,11 +15,11 @@ returns-then-tuple-j c =
 pub returns-then-j-lt8 : goal.returns-then-j-lt8
 returns-then-j-lt8 c =
     let a = c.args in
-    sym (get_or-take a.t1.count a.t1.values a.i 0 c.if-tuple-j.false)
+    sym (get_or-take a.tuple.count a.tuple.values a.i 0 c.if-tuple-j.false)
 
 pub returns-else-j-lt8 : goal.returns-else-j-lt8
 returns-else-j-lt8 c =
     let a = c.args in
-    let g : length a.t1.values ≡ 8 = search rules in
-    sym (get_or-take a.t1.count a.t1.values a.i 0 c.if-tuple-j.false
-    ∙ get_or-eq_default a.t1.values 0 (rw g c.if-j-lt8.false))
+    let g : length a.tuple.values ≡ 8 = search rules in
+    sym (get_or-take a.tuple.count a.tuple.values a.i 0 c.if-tuple-j.false
+    ∙ get_or-eq_default a.tuple.values 0 (rw g c.if-j-lt8.false))

@@ -1,0 +1,7 @@
+use Prim.Native.Nat.{ℕ, ◌-◌, ◌<◌}
+use mathlib.Core.Path.{◌≡◌}
+use lib.ListN.{length}
+use Rattle.formulas.proofs.terms.+read_term.Given as goal
+
+abbrev pub decreases-read_term : goal.decreases-read_term
+decreases-read_term l = length l.body.now - l.at
