@@ -1,0 +1,9 @@
+-- `reading::with_equation` meets its contract.
+-- Three stores.
+use mathlib.Core.Path.{refl}
+use Rattle.reading.specs.Contract.{with_equation}
+use borrow.Author.Rules.{rules}
+use Rattle.reading.proofs.drafting.with_equation.Goals as goal
+
+pub returns : goal.returns
+returns c = unfold with_equation in refl

@@ -1,0 +1,11 @@
+-- `words::argument_tuple` meets its contract: the code is the definition.
+-- Each argument is below 16, so it is a byte.
+use borrow.Author.Rules.{rules}
+use mathlib.Core.Path.{refl}
+use Rattle.meaning.specs.WordLaws.{arguments_of}
+use Rattle.words.specs.Unpacked.{argument_tuple}
+use Rattle.words.proofs.argument_tuple.Goals as goal
+
+pub returns : goal.returns
+unfolding argument_tuple arguments_of
+returns c = rw (c.smaller.ensures, c.wide.ensures.0) refl
