@@ -25,8 +25,6 @@ returns-then-text-gt32768 c =
 
 pub loop-at-init : goal.loop-at-init
 loop-at-init c =
-    let near : let end = c.frame_at-f.result.end in (c.loop-at.at ≤ end) × (end ≤ length c.args.text.now) =
-        turn.end_near _ _ c.frame_at-f.ensures c.loop-at-test.true in
     let t = c.args.text.now in
     record {
       done = [];
@@ -34,7 +32,7 @@ loop-at-init c =
       near = omega arith;
       early = omega arith;
       begins = turn.first_begins t;
-      = drafted_none (line_place t) (c.no_model-m.ensures (line_place t)) c.requires;
+      drafted = drafted_none (line_place t) (c.no_model-m.ensures (line_place t)) c.requires;
       left = unfold text_refusal in ap (judged []) (turn.frames_begin t c.if-text-gt32768.false);
       whole = ap (λ (fs : Frames). fs.all) (turn.frames_begin t c.if-text-gt32768.false);
     }
@@ -52,7 +50,6 @@ returns-then-number-ne0 c =
     let frame_judged : let done = c.loop-at.invariant.done in c.frame_refusal-number.result ≡ refusal_after done bytes =
         let d = c.loop-at.invariant.drafted in
             rw (count_is d, unstarted_is d) at c.frame_refusal-number.ensures in
-    let = c in
     let loop = c.loop-at in
     law.lines_refused _ _ _ _ c.stop-then-number-ne0.ensures c.if-number-ne0.true
     (loop.invariant.left ∙ turn.frame_stops _ _ _ _ c.loop-at-test.true c.frame_at-f.ensures
@@ -109,7 +106,7 @@ loop-at-preserved c =
       near = omega (arith, near);
       early = omega (arith, p.early, near);
       begins = rw (turn.end_is _ _ read.ensures) (turn.next_begins _ _ _ inside p.begins);
-      = drafted_as c.with_frame-m.ensures c.keep_body.ensures
+      drafted = drafted_as c.with_frame-m.ensures c.keep_body.ensures
           (drafted_more p.drafted _ _ _ p.begins.place passed);
       left = p.left ∙ turn.frame_goes _ _ _ _ inside read.ensures zero passed;
       whole = p.whole ∙ ap (λ (fs : Frames). p.done ++ fs.all) (turn.framed _ p.done _ _ inside read.ensures zero)

@@ -1,5 +1,6 @@
 -- `reading::with_frame` meets its contract.
 -- One branch for each first byte.
+use native.Mathlib.Omega.{arith}
 use mathlib.Core.Path.{sym, ◌∙◌}
 use borrow.Author.Tests.{ne_eqb}
 use borrow.Author.Rules.{rules}
@@ -11,8 +12,7 @@ with_equation-requires c = c.requires.1 (sym c.element-code.ensures ∙ c.in-1.i
 
 pub returns-in_default : goal.returns-in_default
 returns-in_default c =
-    let other = c.in_default.rest in
-    rw (← c.element-code.ensures, ne_eqb _ 1 other.0.1, ne_eqb _ 2 other.1)
+    rw (← c.element-code.ensures, ne_eqb c.element-code.result 1 (λ h. omega arith), ne_eqb c.element-code.result 2 (λ h. omega arith))
 
 pub equation_record-requires : goal.equation_record-requires
 equation_record-requires c = c.requires.0

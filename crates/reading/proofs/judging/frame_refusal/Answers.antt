@@ -1,5 +1,6 @@
 -- `reading::frame_refusal` meets its contract.
 -- One branch for each first byte.
+use native.Mathlib.Omega.{arith}
 use borrow.Author.Tests.{ne_eqb}
 use Rattle.reading.specs.Reading.{frame_refusal}
 use borrow.Author.Rules.{rules}
@@ -8,8 +9,8 @@ use Rattle.reading.proofs.judging.frame_refusal.Goals as goal
 pub returns-in_default : goal.returns-in_default
 unfolding frame_refusal
 returns-in_default c =
-    let none = c.in_default.rest in
-    rw (← c.element-code.ensures, ne_eqb _ 1 none.0.0.1, ne_eqb _ 2 none.0.1, ne_eqb _ 3 none.1)
+    rw (← c.element-code.ensures, ne_eqb c.element-code.result 1 (λ h. omega arith), ne_eqb c.element-code.result 2 (λ h. omega arith),
+    ne_eqb c.element-code.result 3 (λ h. omega arith))
 
 pub returns-in-1 : goal.returns-in-1
 returns-in-1 c =

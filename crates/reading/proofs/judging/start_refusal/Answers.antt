@@ -15,13 +15,15 @@ pub returns-then-count-eq0 : goal.returns-then-count-eq0
 returns-then-count-eq0 c = unfold start_refusal in rw (c.if-started.false, c.if-count-eq0.true)
 
 pub returns-then-frame-lt2 : goal.returns-then-frame-lt2
+unfolding start_refusal
 returns-then-frame-lt2 c =
     let some : ltb 0 c.args.count ≡ true =
     lt-ltb 0 c.args.count (omega (arith, c.if-count-eq0.false)) in
-    unfold start_refusal in rw (c.if-started.false, some, lt-leb 2 _ c.if-frame-lt2.true)
+    rw (c.if-started.false, some, lt-leb 2 _ c.if-frame-lt2.true)
 
 pub returns-else-frame-lt2 : goal.returns-else-frame-lt2
+unfolding start_refusal
 returns-else-frame-lt2 c =
     let some : ltb 0 c.args.count ≡ true =
     lt-ltb 0 c.args.count (omega (arith, c.if-count-eq0.false)) in
-    unfold start_refusal in rw (c.if-started.false, some, le-leb 2 _ c.if-frame-lt2.false)
+    rw (c.if-started.false, some, le-leb 2 _ c.if-frame-lt2.false)
