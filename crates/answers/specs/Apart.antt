@@ -17,7 +17,7 @@ use Rattle.answers.specs.declared.Answer.{Answer}
 use Rattle.answers.specs.Answers.{list, room_of, refusal, verdict, answer, table_after, checked}
 use Rattle.answers.specs.Answers.{table_after_check, is_found, list_answer, solved}
 use Rattle.answers.specs.Printed.{answer_lines, printed, printed_solved}
-use Rattle.answers.specs.Demand1.{◌exactly-when◌, first_short_list, then_text, then_verdict}
+use Rattle.answers.specs.Demand1.{◌exactly_when◌, first_short_list, then_text, then_verdict}
 use Rattle.answers.specs.Demand1.{verdict_given, nine_given, text_number_given, number_at_most_9}
 use Rattle.answers.specs.Demand1.{refusal_clear, table_listed, records_enough}
 use Rattle.answers.specs.Demand2.{start_first, verdict_answered, verdict_read, verdict_room, answered}

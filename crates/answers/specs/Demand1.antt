@@ -20,8 +20,8 @@ use Rattle.reading.proofs.LineNumbers.{one_of_long_text, long_text_one, refusal_
 use Rattle.answers.specs.Answers.{list, room_of, refusal, verdict, judged, answer, kept_words}
 use Rattle.answers.specs.Answers.{table_after, checked, table_after_check}
 
-infix 10 ◌exactly-when◌
-abbrev pub ◌exactly-when◌ : Type 0 → Type 0 → Type 0
+infix 10 ◌exactly_when◌
+abbrev pub ◌exactly_when◌ : Type 0 → Type 0 → Type 0
 A exactly_when B = (A → B) × (B → A)
 
 -- the answers for a text, so many records and so many words lent, each with its cause

@@ -31,7 +31,7 @@ use Rattle.truth.proofs.Words.{truth_words_bits, truth_words_count}
 use Rattle.answers.specs.declared.Answer.{Answer}
 use Rattle.answers.specs.Answers.{the_model, the_start, list, truth_in, shown_values, room_of}
 use Rattle.answers.specs.Answers.{verdict, answer}
-use Rattle.answers.specs.Demand1.{◌exactly-when◌, verdict_given, then_verdict, records_enough}
+use Rattle.answers.specs.Demand1.{◌exactly_when◌, verdict_given, then_verdict, records_enough}
 
 -- ---- the list, of a text that is not refused
 module _ (t : List ℕ) (r : (text_refusal t).number ≡ 0) where

@@ -12,7 +12,7 @@ use Rattle.truth.specs.Bits.{bit_of}
 use Rattle.answers.specs.declared.Answer.{Answer}
 use Rattle.answers.specs.Answers.{the_model, the_start, list, truth_in, room_of, verdict}
 use Rattle.answers.specs.Answers.{answer, kept_words, checked}
-use Rattle.answers.specs.Demand1.{◌exactly-when◌, Reply, short_list, text_refused, too_many, judged_so}
+use Rattle.answers.specs.Demand1.{◌exactly_when◌, Reply, short_list, text_refused, too_many, judged_so}
 use Rattle.answers.specs.Demand1.{every_answer, records_enough, nine_given, kept_all}
 use Rattle.answers.specs.Demand2.{start_first, start_exactly, verdict_answered}
 use Rattle.answers.specs.Demand2.{verdict_read, verdict_room, answered, bit_is_value}

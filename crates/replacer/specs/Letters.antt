@@ -22,7 +22,7 @@ use Rattle.reading.specs.Models.{equations_in, model_of, start_in}
 use Rattle.reading.specs.Reading.{refused, text_refusal}
 use Rattle.reading.specs.Letters.{refusal_in_small}
 use Rattle.answers.specs.Answers.{the_model, the_start}
-use Rattle.answers.specs.Demand1.{◌exactly-when◌}
+use Rattle.answers.specs.Demand1.{◌exactly_when◌}
 use Rattle.replacer.specs.Replaced.{equation_frame, head_size, with_side, line_with, lines_replaced}
 use Rattle.replacer.specs.Replaced.{replaced_text, old_side, replacement_refusal}
 use Rattle.replacer.specs.Printed.{printed_replacement}

@@ -10,7 +10,7 @@ use Rattle.frames.specs.Frames.{frames}
 use Rattle.reading.specs.Models.{equations_in}
 use Rattle.reading.specs.Reading.{Refusal, refused, text_refusal}
 use Rattle.reading.proofs.LineNumbers.{refusal_bounded}
-use Rattle.answers.specs.Demand1.{◌exactly-when◌}
+use Rattle.answers.specs.Demand1.{◌exactly_when◌}
 use Rattle.replacer.specs.Replaced.{replaced_text, replacement_refusal}
 
 -- how many equations a text has

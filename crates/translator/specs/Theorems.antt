@@ -22,7 +22,7 @@ use Rattle.translation.specs.Sound.{translation_well_formed}
 use Rattle.inputs.specs.Inputs.{input_refusal, process_of, formula_of}
 use Rattle.inputs.specs.Content.{content_formed}
 use Rattle.answers.specs.Answers.{answer}
-use Rattle.answers.specs.Demand1.{◌exactly-when◌}
+use Rattle.answers.specs.Demand1.{◌exactly_when◌}
 use Rattle.answers.specs.Demand2.{holds_exactly}
 use Rattle.emitter.specs.Limits.{equation_fits, each_fits, within_limits}
 use Rattle.translator.specs.Answers.{model_for, translated_text, translation_refusal}
