@@ -1,0 +1,17 @@
+-- `scans::find_fixed` meets its contract.
+-- Each turn passes a code; the fixed point that is sought is one of those still to come.
+use Prim.Native.Nat.{◌-◌, ◌≤◌}
+use native.Mathlib.Omega.{arith}
+use mathlib.Core.Path.{◌≡◌, sym, ap, ◌∙◌}
+use mathlib.Core.Logic.{⊎_elim}
+use borrow.Author.Rules.{rules}
+use Rattle.scans.specs.Formulas.{is_fixed}
+use Rattle.scans.proofs.ScannedFormulas.{code_at, width_small}
+use Rattle.scans.proofs.Sought.{Seeking, seeking_start, seeking_passed, seeking_less, seeking_found, seeking_end}
+use Rattle.scans.proofs.formulas.find_fixed.Given as goal
+
+abbrev pub invariant-loop-at : goal.invariant-loop-at
+invariant-loop-at l = Seeking l.sheet l.number l.left l.at
+
+abbrev pub decreases-loop-at : goal.decreases-loop-at
+decreases-loop-at l = 258 - l.at
