@@ -48,8 +48,8 @@ old_side t e =
 -- ---- refused
 
 -- a refusal or, where it is none, the next
-infixr 10 ◌and-then◌
-abbrev pub ◌and-then◌ : Refusal → Refusal → Refusal
+infixr 10 ◌and_then◌
+abbrev pub ◌and_then◌ : Refusal → Refusal → Refusal
 r and_then others = cond (eqb r.number 0) others r
 
 -- "line 0, exactly when": a number unless the test holds

@@ -1,0 +1,18 @@
+-- `processes::with_ranges` meets its contract.
+-- What was put and what is left make the whole; four behind four find place.
+use Prim.Native.Nat.{ℕ, ◌-◌, min}
+use native.Mathlib.Omega.{arith}
+use mathlib.Core.Path.{◌≡◌, ap, ◌∙◌}
+use mathlib.Core.List.{◌++◌}
+use borrow.Author.Rules.{rules}
+use Rattle.formulas.specs.Contract.{part}
+use Rattle.formulas.specs.Tuples.{items}
+use Rattle.inputs.specs.Inputs.{count_of}
+use Rattle.processes.proofs.CountedBytes.{Putting, put_start, put_more, put_end}
+use Rattle.processes.proofs.summands.with_ranges.Given as goal
+
+abbrev pub invariant-loop-i : goal.invariant-loop-i
+invariant-loop-i l = Putting l.frame l.count l.initial.all l.all l.i
+
+abbrev pub decreases-loop-i : goal.decreases-loop-i
+decreases-loop-i l = l.count - l.i
