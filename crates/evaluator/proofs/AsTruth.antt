@@ -7,7 +7,7 @@ use mathlib.Core.List.{List, [], ◌∷◌, ◌++◌}
 use Rattle.meaning.specs.Logic.{◌and◌, ◌or◌, join, Is, join_drops, join_makes, join_same, over_related}
 use Rattle.meaning.specs.Solution.{Args, Assign, mem}
 use Rattle.meaning.specs.Formulas.{Formula, constant, joined, quantified, compared, instance, holds}
-use Rattle.meaning.specs.Simplification.{left, simplified}
+use Rattle.meaning.specs.Simplification.{simplified}
 use Rattle.meaning.specs.Reach.{Instance, instances}
 use Rattle.meaning.specs.Simplified.{holds_depends}
 use Rattle.meaning.specs.Words.{word}

@@ -1,14 +1,12 @@
 -- The value of a formula by the kind of its code, and what was looked at for it; and the values of a quantifier.
 -- Each law is one step of the definition of what stands at a place, with the laws of what settles a value.
-use Prim.Native.Nat.{ℕ, ◌+◌, ◌-◌, ◌/◌, ◌≤◌, ◌<◌, min}
-use native.Mathlib.Omega.{arith}
+use Prim.Native.Nat.{ℕ, ◌+◌, ◌≤◌, ◌<◌}
 use mathlib.Core.Path.{◌≡◌, refl, sym, ap, ap₂, ◌∙◌}
-use mathlib.Core.Bool.{Bool, true, false, not, cond}
+use mathlib.Core.Bool.{Bool, true, false, not}
 use mathlib.Core.List.{List, [], ◌∷◌, ◌++◌}
-use lib.Dec.{eqb}
 use lib.ListN.{length}
-use borrow.Author.Tests.{lt-ltb, le-ltb, eqb-true}
-use Rattle.meaning.specs.Formulas.{Formula, value, values, test_holds}
+use borrow.Author.Tests.{lt-ltb, le-ltb}
+use Rattle.meaning.specs.Formulas.{Formula, test_holds}
 use Rattle.meaning.specs.Ranges.{is_range}
 use Rattle.meaning.specs.Words.{word}
 use Rattle.formulas.specs.declared.Kind.{Kind}

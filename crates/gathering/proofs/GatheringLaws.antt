@@ -1,6 +1,6 @@
 -- Gathering the instances left in a formula: a law for each way through the functions that gather.
 -- A connective that no part decides leaves what its parts leave; of a decided one nothing, and what was added is taken back.
-use Prim.Native.Nat.{ℕ, ◌+◌, ◌-◌, ◌≤◌, ◌<◌}
+use Prim.Native.Nat.{ℕ, ◌+◌, ◌≤◌, ◌<◌}
 use native.Mathlib.Omega.{arith}
 use native.Mathlib.Nat.{sub-zero}
 use mathlib.Core.Path.{◌≡◌, refl, sym, ap, ap₂, ◌∙◌, fun_ext}

@@ -1,7 +1,7 @@
 -- What a right side reads: it hangs on these numbers alone, and where it is plain it is `all` where each of them is.
 -- A plain tree is `all` where every leaf is; and the numbers read are those of the leaves' words in the table.
-use Prim.Native.Nat.{ℕ, zero, suc, ◌≤◌, ◌<◌}
-use native.Mathlib.Decide.{dec_lt, ℕ_discrete}
+use Prim.Native.Nat.{ℕ, ◌<◌}
+use native.Mathlib.Decide.{ℕ_discrete}
 use native.Mathlib.Omega.{arith}
 use mathlib.Core.Path.{◌≡◌, refl, sym, ap₂, ◌∙◌, fun_ext}
 use mathlib.Core.Bool.{Bool, true, false, not, cond, ◌&&◌, beq, and-eq-true_iff}
@@ -10,7 +10,7 @@ use mathlib.Core.Logic.{⊎_elim}
 use lib.Dec.{eqb, ltb}
 use lib.ListN.{length, length-append, get_or, get_or-append}
 use borrow.Author.Tests.{lt-ltb, ltb-true, eq-eqb, ne_eqb, not-false}
-use Rattle.meaning.specs.Logic.{Is, ◌and◌, ◌or◌, join, join_makes, join_same, cases}
+use Rattle.meaning.specs.Logic.{Is, ◌and◌, ◌or◌, join, join_makes, join_same}
 use Rattle.meaning.specs.Solution.{mem}
 use Rattle.meaning.specs.Simplification.{Tree, leaf, node, Simplified, decided, left, tree_holds, simplified_holds}
 use Rattle.meaning.specs.Reach.{Instance, leaves, instances}

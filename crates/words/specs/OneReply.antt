@@ -1,6 +1,6 @@
 -- ONE REPLY: for each public function two results that its contract allows are equal.
 -- Each contract is an equation of the whole result.
-use Rattle.std.specs.Prelude.{ℕ, ◌≡◌, Bool, List, ◌∷◌}
+use Rattle.std.specs.Prelude.{ℕ, ◌≡◌, List, ◌∷◌}
 use Rattle.meaning.specs.OneReply.{one_reply}
 use Rattle.meaning.specs.Words.{word}
 use Rattle.formulas.specs.declared.Tuple.{Tuple}

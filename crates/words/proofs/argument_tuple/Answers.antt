@@ -1,6 +1,5 @@
 -- `words::argument_tuple` meets its contract: the code is the definition.
 -- Each argument is below 16, so it is a byte.
-use borrow.Author.Rules.{rules}
 use mathlib.Core.Path.{refl}
 use Rattle.meaning.specs.WordLaws.{arguments_of}
 use Rattle.words.specs.Unpacked.{argument_tuple}

@@ -1,14 +1,12 @@
 -- `words::count_with` meets its contract.
 -- Before turn i the count is that of the first i words.
-use Prim.Native.Nat.{◌≤◌, ◌-◌}
-use mathlib.Core.Path.{◌≡◌, sym, ap, ◌∙◌}
-use mathlib.Core.Logic.{⊎_elim}
-use lib.ListN.{length, take, length-take}
+use mathlib.Core.Path.{sym, ap, ◌∙◌}
+use lib.ListN.{take, length-take}
 use lib.Seq.{take_all}
 use native.Mathlib.Omega.{arith}
-use borrow.Author.Rules.{rules}
 use Rattle.words.specs.Counts.{count_with, count_none, count_next, count_past, count_at_most}
 use Rattle.words.proofs.count_with.Goals as goal
+use Rattle.words.proofs.count_with.Goals.{then-equation_number-equation, else-equation_number-equation}
 
 pub overflow_add-count : goal.overflow_add-count
 overflow_add-count c =
@@ -26,8 +24,12 @@ loop-i-preserved c =
     let next = count_next a.equation loop.i a.list.now within in
     let past = count_past a.equation loop.i a.list.now within in (
       omega arith,
-      ⊎_elim (λ w. w.1 ∙ omega (arith, loop.invariant.1, next (sym named ∙ w.0.taken)))
-          (λ w. w.1 ∙ loop.invariant.1 ∙ sym (past (λ e. w.0.left (named ∙ e)))) c.if-equation_number-equation.branch,
+      elim c.if-equation_number-equation.branch [
+        | then-equation_number-equation w ↦
+            w.count-is ∙ omega (arith, loop.invariant.1, next (sym named ∙ w.if-equation_number-equation.true))
+        | else-equation_number-equation w ↦
+            w.count-is ∙ loop.invariant.1 ∙ sym (past (λ e. w.if-equation_number-equation.false (named ∙ e)))
+      ],
     )
 
 pub returns : goal.returns

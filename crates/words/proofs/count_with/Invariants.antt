@@ -1,13 +1,9 @@
 -- `words::count_with` meets its contract.
 -- Before turn i the count is that of the first i words.
 use Prim.Native.Nat.{◌≤◌, ◌-◌}
-use mathlib.Core.Path.{◌≡◌, sym, ap, ◌∙◌}
-use mathlib.Core.Logic.{⊎_elim}
-use lib.ListN.{length, take, length-take}
-use lib.Seq.{take_all}
-use native.Mathlib.Omega.{arith}
-use borrow.Author.Rules.{rules}
-use Rattle.words.specs.Counts.{count_with, count_none, count_next, count_past, count_at_most}
+use mathlib.Core.Path.{◌≡◌}
+use lib.ListN.{length, take}
+use Rattle.words.specs.Counts.{count_with}
 use Rattle.words.proofs.count_with.Given as goal
 
 abbrev pub invariant-loop-i : goal.invariant-loop-i
