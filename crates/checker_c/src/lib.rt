@@ -1,5 +1,5 @@
-// The public operations for the image builder, in C: each calls the one of the same name in the crate `checker`
-// and promises what it promises. `rt lib` makes the archive of them.
+// The public operations for the image builder, in C: each calls the one of the same name in the crate
+// `checker` and promises what it promises. `rt lib` makes the archive of them.
 #![tactic(auto)]
 
 ghost use Rattle.printing.specs.Promise.{Written, SolvedWritten};

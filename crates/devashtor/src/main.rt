@@ -3,7 +3,7 @@
 // `replace E SIDE` a model, of which one right side is replaced. With any other word nothing is printed.
 #![tactic(auto)]
 
-ghost use Rattle.std.specs.Prelude.{◌≡◌, length, ◌==◌};
+ghost use Rattle.std.specs.Prelude.{◌≡◌, length};
 
 use std::env::FillError;
 use std::io;
