@@ -19,9 +19,10 @@ const HEADLINES: &str = "answers/specs/Demand1 answers/specs/Demand2 answers/spe
     inputs/specs/Content translator/specs/Answers translator/specs/Printed translator/specs/Theorems replacer/specs/Order replacer/specs/Theorems
     replacer/specs/Samples digits/proofs/Letters frames/specs/Letters reading/specs/Letters answers/specs/Letters
     translator/specs/Letters replacer/specs/Letters checker/specs/Letters";
-const LIBRARIES: &str = "mathlib lib mir Prim borrow native";
+const LIBRARIES: &str = "std core mathlib lib mir Prim borrow native";
 const LANGUAGE: &str = "( ) { } [ ] ; , : = | ↦ → × λ ⌜ ⌝ _ ⊥ Type Unit tt abbrev unfoldable pub data record
-    unfolding where let in elim absurd struct enum ensures requires now -> mut bool u8 u16 u32 u64 usize";
+    unfolding where let in elim absurd if then else struct enum ensures requires result now old new -> mut impl dyn
+    bool u8 u16 u32 u64 usize Option Result Print";
 
 /// A definition, a theorem, a struct, an enum, or the contract of a public function.
 struct Item {
@@ -78,6 +79,25 @@ fn bound(text: &str) -> HashSet<String> {
     found
 }
 
+/// A use of code, `a::b` or `a::{b, c}` or `a::m::{b, c}` with a module m, written as specs have it.
+fn used_in_code(text: &str) -> String {
+    let Some((place, names)) = text.rsplit_once("::") else { return format!("use {text}\n") };
+    let (in_crate, module) = place.split_once("::").unwrap_or((place, ""));
+    let module = if module.is_empty() { String::new() } else { format!(".{module}.all") };
+    format!("use {in_crate}.specs.declared{module}.{{{}}}\n", names.trim_matches(['{', '}']))
+}
+
+/// The head and the contract of a function without the signs of types, and without the names of clauses.
+fn of_function(text: &str) -> String {
+    let clause = |l: &&str| one_of(l.split_whitespace().next().unwrap_or(""), "ensures requires");
+    let signature = text.lines().take_while(|l| !clause(l)).collect::<Vec<_>>().join("\n");
+    let plain = signature.replace("->", "→").replace("::", " ").replace(" + ", " ").replace(['<', '>', '\''], " ");
+    text[signature.len()..].lines().fold(plain, |all, l| match l.split_once('{') {
+        Some((kind, rest)) if clause(&l) => format!("{all}\n  {} {{{rest}", kind.split_whitespace().next().unwrap_or("")),
+        _ => format!("{all}\n{l}"),
+    })
+}
+
 /// Code, written as specs are: what it uses, structs and enums, and the contracts of public functions.
 fn as_specs(in_crate: &str, code: &str) -> String {
     let mut specs = String::new();
@@ -85,14 +105,17 @@ fn as_specs(in_crate: &str, code: &str) -> String {
     for paragraph in format!("\n{code}").replace("\n//", "\n--").replace("\n#", "\n--").split("\n\n") {
         let paragraph = paragraph.replace(['[', ']', '&'], " ").replace(": ", " : ");
         let lines = || paragraph.lines().filter(|l| !l.starts_with("--"));
-        for line in lines().map(|l| l.trim_start_matches("ghost ")).filter(|l| l.starts_with("use ")) {
-            specs += &format!("{}\n", line.trim_end_matches(';').replace("::", ".specs.declared.{"));
+        for used in lines().collect::<Vec<_>>().join(" ").split(';').map(str::trim) {
+            // a function may be named as the definition that it computes, and a contract means that one
+            specs.insert_str(0, &used.strip_prefix("use ").map_or(String::new(), used_in_code));
+            specs += &used.strip_prefix("ghost ").map_or(String::new(), |l| format!("{l}\n"));
         }
         let head = lines().next().unwrap_or("");
         if head.starts_with("pub ") && one_of("fn", head) {
             // a function's name is no word of specs; one with no contract has its brace in its first line
             let contract = lines().skip(1).take_while(|l| *l != "{" && !head.ends_with('{'));
             let text = std::iter::once(head.trim_end_matches('{')).chain(contract).collect::<Vec<_>>().join("\n  ");
+            let text = of_function(&text);
             specs += &format!("pub fn·{}\n", text.split("fn ").nth(1).unwrap_or("")).replacen('(', " : (", 1);
         } else if one_of("struct", head) || one_of("enum", head) {
             let declared = paragraph.replace("pub(crate) ", "pub ");
@@ -105,8 +128,8 @@ fn as_specs(in_crate: &str, code: &str) -> String {
 /// Takes in `A.B.{x, y as z}`, or `A.B as m`, after which `m.x` is used.
 fn take_use(uses: &mut HashMap<String, (String, String)>, text: &str) {
     let (module, names) = text.split_once(".{").or(text.split_once(" as ")).unwrap_or((text, ""));
-    let parts: Vec<&str> = module.trim_start_matches("Rattle·").split('.').collect();
-    let in_crate = parts[0].split('·').next().unwrap_or("");
+    let parts: Vec<&str> = module.trim_start_matches("Rattle.").split('.').collect();
+    let in_crate = parts[0];
     let file = match parts[..] {
         [library, ..] if one_of(library, LIBRARIES) => String::new(),
         [_, _, "declared", module, _] if module.starts_with(char::is_lowercase) => format!("{in_crate}/src/{module}"),
@@ -172,7 +195,7 @@ fn source_of(text: &str) -> Source {
 
 /// The file and the number of the item that a name means in a file; a library has no file.
 fn find(sources: &BTreeMap<String, Source>, file: &str, name: &str) -> Option<(String, usize)> {
-    let (source, infix) = (sources.get(file)?, format!("_{name}_"));
+    let (source, infix) = (sources.get(file)?, format!("◌{name}◌"));
     if let Some(number) = source.names.get(name).or(source.names.get(&infix)) {
         return Some((file.to_string(), *number));
     }

@@ -1,4 +1,5 @@
-// The public operations, and those for C: each a thin function over what the crates below do.
+// The public operations, and those for C: each a thin function over what the crates below do. The crate
+// `checker_c` exports those for C.
 #![tactic(auto)]
 
 ghost use Rattle.std.specs.Prelude.{◌≡◌, ◌≤◌};
@@ -14,8 +15,7 @@ pub use writing::Writing;
 // For the image builder, in C: writes what the checking program prints for a text into the lent buffer and
 // gives the number of bytes written.
 // A buffer under 7,693 bytes, which is what the longest answer takes, gives 0 and stays.
-#[unsafe(no_mangle)]
-pub extern "C" fn devashtor_check(text: &[u8], out: &mut [u8]) -> usize
+pub fn devashtor_check(text: &[u8], out: &mut [u8]) -> usize
     ensures { Written text.now out.old result out.new }
 {
     printing::print_answer(text, out)
@@ -23,8 +23,7 @@ pub extern "C" fn devashtor_check(text: &[u8], out: &mut [u8]) -> usize
 
 // For the image builder, in C: writes the reached instances of a text into the lent table and gives how many
 // they are, or, on a refusal, 2^63 + number * 2^32 + line.
-#[unsafe(no_mangle)]
-pub extern "C" fn devashtor_find(text: &[u8], table: &mut [u32]) -> u64
+pub fn devashtor_find(text: &[u8], table: &mut [u32]) -> u64
     ensures { FindsForC text.now table.old result table.new }
 {
     let e = engine::find(text, table);
@@ -40,8 +39,7 @@ pub extern "C" fn devashtor_find(text: &[u8], table: &mut [u32]) -> u64
 // For the image builder, in C: writes what the checking program prints for a text into the lent buffer, where
 // the lent list is that of its reached instances, else a refusal's line; gives the number of bytes written.
 // A buffer under 7,693 bytes gives 0 and stays.
-#[unsafe(no_mangle)]
-pub extern "C" fn devashtor_solve(text: &[u8], list: &[u32], out: &mut [u8]) -> usize
+pub fn devashtor_solve(text: &[u8], list: &[u32], out: &mut [u8]) -> usize
     ensures { SolvedWritten text.now list.now out.old result
         out.new }
 {
@@ -50,8 +48,7 @@ pub extern "C" fn devashtor_solve(text: &[u8], list: &[u32], out: &mut [u8]) -> 
 
 // For the image builder, in C: writes the text of the model of a process and a formula into the lent buffer
 // and gives how many bytes it has, or, on a refusal, 2^63 + number * 2^32 + line; then nothing is written.
-#[unsafe(no_mangle)]
-pub extern "C" fn devashtor_translate(text: &[u8], out: &mut [u8]) -> u64
+pub fn devashtor_translate(text: &[u8], out: &mut [u8]) -> u64
     ensures { TranslatesForC text.now out.old result out.new }
 {
     reply_word(translator::translate(text, out))
@@ -60,13 +57,7 @@ pub extern "C" fn devashtor_translate(text: &[u8], out: &mut [u8]) -> u64
 // For the image builder, in C: writes a model's text with the right side of an equation replaced by the bytes
 // of a new one into the lent buffer and gives how many bytes it has, or, on a refusal, 2^63 + number * 2^32 +
 // line; then nothing is written.
-#[unsafe(no_mangle)]
-pub extern "C" fn devashtor_replace(
-    text: &[u8],
-    equation: usize,
-    side: &[u8],
-    out: &mut [u8],
-) -> u64
+pub fn devashtor_replace(text: &[u8], equation: usize, side: &[u8], out: &mut [u8]) -> u64
     ensures { ReplacesForC text.now equation side.now out.old result
         out.new }
 {

@@ -5,71 +5,78 @@
 
 ghost use Rattle.std.specs.Prelude.{◌≡◌, length};
 
-fn main() {
-    let mut text = text_buffer();
-    let read = io::read_full(libc::STDIN_FILENO, &mut text);
+use std::env::FillError;
+use std::io;
+use std::io::Read;
+use std::rt::Env;
+
+fn main(rt: HostRuntime) -> io::Result<()> {
+    let mut text = Vec::new(rt.alloc());
+    // One byte more than a text may have: a longer input is refused as this one is.
+    rt.reader().take(32769).read_to_end(&mut text)?;
     let mut name = [0u8; 16];
-    let size = os::arg(1, &mut name);
-    let command = &name[..size];
+    match rt.arg(1, &mut name) {
+        Ok(size) => run(&rt, &name[..size], &text),
+        Err(FillError::NotPresent) => check(&rt, &text),
+        Err(FillError::TooLong) => Ok(()),
+    }
+}
+
+// Does what a command says; nothing where a word is no command.
+fn run(rt: &(impl Env + Print), command: &[u8], text: &[u8]) -> io::Result<()> {
     if is_word(command, b"translate") {
-        translate(&text[..read]);
+        translate(rt, text)
     } else if is_word(command, b"replace") {
-        replace(&text[..read]);
-    } else if basics::and(size == 0, os::arg_count() <= 1) {
-        check(&text[..read]);
+        replace(rt, text)
     } else if is_word(command, b"check") {
-        check(&text[..read]);
+        check(rt, text)
+    } else {
+        Ok(())
     }
 }
 
 // Whether some bytes are a word.
 fn is_word(bytes: &[u8], word: &[u8]) -> bool {
-    if bytes.len() != word.len() {
-        return false;
-    }
-    let mut i: usize = 0;
-    while i < bytes.len() {
-        if bytes[i] != word[i] {
-            return false;
-        }
-        i += 1;
-    }
-    true
+    bytes == word
 }
 
 // Prints the lines of a model's answer.
-fn check(text: &[u8]) {
+fn check(rt: &impl Print, text: &[u8]) -> io::Result<()> {
     let mut out = out_buffer();
     let written = checker::devashtor_check(text, &mut out);
-    io::write_all(libc::STDOUT_FILENO, &out[..written]);
+    rt.write_all(&out[..written])
 }
 
 // Prints the text of the model of a process and a formula, or the refusal.
-fn translate(text: &[u8]) {
+fn translate(rt: &impl Print, text: &[u8]) -> io::Result<()> {
     let mut out = model_buffer();
     let written = translator::print_translation(text, &mut out);
-    io::write_all(libc::STDOUT_FILENO, &out[..written]);
+    rt.write_all(&out[..written])
 }
 
 // Prints the model with the right side of the equation that the second word names replaced by the bytes that
 // the third one says, or the refusal. Nothing where there are other words, or one that no buffer holds.
-fn replace(text: &[u8]) {
-    if os::arg_count() != 4 {
-        return;
+fn replace(rt: &(impl Env + Print), text: &[u8]) -> io::Result<()> {
+    if has_word(rt, 4) {
+        return Ok(());
     }
     let mut number = word_buffer();
-    let digits = os::arg(2, &mut number);
-    if os::errno() != 0 {
-        return;
-    }
+    let Ok(digits) = rt.arg(2, &mut number) else {
+        return Ok(());
+    };
     let mut side = word_buffer();
-    let size = os::arg(3, &mut side);
-    if os::errno() != 0 {
-        return;
-    }
+    let Ok(size) = rt.arg(3, &mut side) else {
+        return Ok(());
+    };
     let mut out = text_buffer();
     let written = replacer::print_replacement(text, &number[..digits], &side[..size], &mut out);
-    io::write_all(libc::STDOUT_FILENO, &out[..written]);
+    rt.write_all(&out[..written])
+}
+
+// Whether the command line has a word of this number; the program's name is word 0.
+fn has_word(rt: &impl Env, number: usize) -> bool {
+    let mut start = [0u8; 1];
+    !matches!(rt.arg(number, &mut start), Err(FillError::NotPresent))
 }
 
 // As many bytes as a word of a command line may have on Linux.
@@ -79,7 +86,7 @@ fn word_buffer() -> [u8; 131072]
     [0; 131072]
 }
 
-// One byte more than a text may have: a longer input is refused as this one is.
+// One byte more than a text may have.
 fn text_buffer() -> [u8; 32769]
     ensures { 32769 ≡ length result }
 {

@@ -10,13 +10,16 @@
 
 ghost use Rattle.std.specs.Prelude.{◌≡◌, length};
 
+use std::io;
+use std::io::Input;
+
 // Reads a text as long as the buffer and prints its answer.
-fn answer(buffer: &mut [u8]) {
-    let n = io::read_full(libc::STDIN_FILENO, buffer);
+fn answer(rt: &(impl Input + Print), buffer: &mut [u8]) -> io::Result<()> {
+    let n = sampling::read_full(rt, buffer)?;
     let mut out = sampling::answer_buffer();
     let written = checker::devashtor_check(&buffer[..n], &mut out);
-    io::write_all(libc::STDOUT_FILENO, &out[..written]);
-    io::write_all(libc::STDOUT_FILENO, b"\n");
+    rt.write_all(&out[..written])?;
+    rt.write_all(b"\n")
 }
 
 // As many bytes as the longest text of a model takes.
@@ -27,12 +30,12 @@ fn model_buffer() -> [u8; 4117]
 }
 
 // Reads a text as long as the buffer and prints its translation.
-fn translation(buffer: &mut [u8]) {
-    let n = io::read_full(libc::STDIN_FILENO, buffer);
+fn translation(rt: &(impl Input + Print), buffer: &mut [u8]) -> io::Result<()> {
+    let n = sampling::read_full(rt, buffer)?;
     let mut out = model_buffer();
     let written = translator::print_translation(&buffer[..n], &mut out);
-    io::write_all(libc::STDOUT_FILENO, &out[..written]);
-    io::write_all(libc::STDOUT_FILENO, b"\n");
+    rt.write_all(&out[..written])?;
+    rt.write_all(b"\n")
 }
 
 // As many bytes as the longest text of a model has.
@@ -44,22 +47,22 @@ fn text_buffer() -> [u8; 32768]
 
 // Prints a text with a right side replaced, as the words say: three digits for the equation, the right side
 // and 0a.
-fn print_edited(text: &[u8], words: &[u8]) {
+fn print_edited(rt: &impl Print, text: &[u8], words: &[u8]) -> io::Result<()> {
     if words.len() < 4 {
-        return;
+        return Ok(());
     }
     let end = words.len() - 1;
     let mut out = text_buffer();
     let written = replacer::print_replacement(text, &words[..3], &words[3..end], &mut out);
-    io::write_all(libc::STDOUT_FILENO, &out[..written]);
-    io::write_all(libc::STDOUT_FILENO, b"\n");
+    rt.write_all(&out[..written])?;
+    rt.write_all(b"\n")
 }
 
 // Reads the words and a text, each as long as its buffer, and edits.
-fn replacement(buffer: &mut [u8], words: &mut [u8]) {
-    let got = io::read_full(libc::STDIN_FILENO, words);
-    let n = io::read_full(libc::STDIN_FILENO, buffer);
-    print_edited(&buffer[..n], &words[..got]);
+fn replacement(rt: &(impl Input + Print), buffer: &mut [u8], words: &mut [u8]) -> io::Result<()> {
+    let got = sampling::read_full(rt, words)?;
+    let n = sampling::read_full(rt, buffer)?;
+    print_edited(rt, &buffer[..n], &words[..got])
 }
 
 // As many bytes as the words may have.
@@ -70,54 +73,67 @@ fn words_buffer() -> [u8; 514]
 }
 
 // Reads the words with a right side of `count` bytes, and edits.
-fn replacement_of(buffer: &mut [u8], count: u8) {
+fn replacement_of(rt: &(impl Input + Print), buffer: &mut [u8], count: u8) -> io::Result<()> {
     let mut words = words_buffer();
     let size = 4 + 2 * basics::wide(count);
-    replacement(buffer, &mut words[..size]);
+    replacement(rt, buffer, &mut words[..size])
 }
 
 // Reads a text of n bytes, or of as many as the buffer holds, and does what its kind says.
-fn answer_first(buffer: &mut [u8], n: usize, kind: u8, count: u8) {
+fn answer_first(
+    rt: &(impl Input + Print),
+    buffer: &mut [u8],
+    n: usize,
+    kind: u8,
+    count: u8,
+) -> io::Result<()> {
     let m = basics::smaller(n, buffer.len());
     if kind == 1 {
-        translation(&mut buffer[..m]);
+        translation(rt, &mut buffer[..m])
     } else if kind == 2 {
-        replacement_of(&mut buffer[..m], count);
+        replacement_of(rt, &mut buffer[..m], count)
     } else if kind == 3 {
-        sampling::find(&mut buffer[..m]);
+        sampling::find(rt, &mut buffer[..m])
     } else if kind == 4 {
-        sampling::solve(&mut buffer[..m]);
+        sampling::solve(rt, &mut buffer[..m])
     } else {
-        answer(&mut buffer[..m]);
+        answer(rt, &mut buffer[..m])
     }
 }
 
+// As many bytes as a head can say that a text has.
+fn large_buffer() -> [u8; 65536]
+    ensures { 65536 ≡ length result }
+{
+    [0; 65536]
+}
+
 // One text; false where there is none left.
-fn turn() -> bool {
+fn turn(rt: &(impl Input + Print)) -> io::Result<bool> {
     let mut head = [0; 9];
-    let got = io::read_full(libc::STDIN_FILENO, &mut head);
+    let got = sampling::read_full(rt, &mut head)?;
     if got < 9 {
-        return false;
+        return Ok(false);
     }
     let high = digits::byte(&head, 2);
     let low = digits::byte(&head, 3);
     let size = basics::wide(high) * 256 + basics::wide(low);
-    let mut buffer = io::large_buffer();
+    let mut buffer = large_buffer();
     answer_first(
+        rt,
         &mut buffer,
         size,
         digits::byte(&head, 0),
         digits::byte(&head, 1),
-    );
-    true
+    )?;
+    Ok(true)
 }
 
-fn main() {
-    let mut left: usize = 100000;
-    while 0 < left {
-        if !turn() {
-            return;
+fn main(rt: HostRuntime) -> io::Result<()> {
+    for _ in 0..100000 {
+        if !turn(&rt)? {
+            return Ok(());
         }
-        left -= 1;
     }
+    Ok(())
 }

@@ -4,7 +4,32 @@
 // line.
 #![tactic(auto)]
 
-ghost use Rattle.std.specs.Prelude.{◌≡◌, ◌≤◌, ◌<◌, length};
+ghost use Rattle.std.specs.Prelude.{◌≡◌, ◌≤◌, ◌<◌, length, IfOk};
+
+use std::io;
+use std::io::{Input, Read};
+
+// Reads until the buffer is full or the input ends, and says how many bytes it has put at the buffer's start.
+fn fill<R: Read>(reader: &mut R, buffer: &mut [u8]) -> io::Result<usize>
+    ensures { IfOk result (λ n. n ≤ length buffer.new) }
+{
+    let mut done = 0;
+    while done < buffer.len() {
+        let n = reader.read(&mut buffer[done..])?;
+        if n == 0 {
+            return Ok(done);
+        }
+        done += n;
+    }
+    Ok(done)
+}
+
+// The same from standard input.
+pub fn read_full(rt: &impl Input, buffer: &mut [u8]) -> io::Result<usize>
+    ensures { IfOk result (λ n. n ≤ length buffer.new) }
+{
+    fill(&mut rt.reader(), buffer)
+}
 
 // As many bytes as the longest answer takes.
 pub fn answer_buffer() -> [u8; 7693]
@@ -22,18 +47,18 @@ fn words_lent() -> [u32; 514]
 
 // Reads a line of four digits that says how many words there are; where it says more than may be lent, as
 // many as may.
-fn read_count() -> usize
-    ensures { result ≤ 514 }
+fn read_count(rt: &impl Input) -> io::Result<usize>
+    ensures { IfOk result (λ n. n ≤ 514) }
 {
     let mut line = [0; 5];
-    io::read_full(libc::STDIN_FILENO, &mut line);
+    read_full(rt, &mut line)?;
     let high = basics::wide(digits::byte(&line, 0));
     let low = basics::wide(digits::byte(&line, 1));
-    basics::smaller(high * 256 + low, 514)
+    Ok(basics::smaller(high * 256 + low, 514))
 }
 
 // Prints a number as a line of small digits, which fills the buffer: the last of them where it has more.
-fn print_line(number: u64, line: &mut [u8])
+fn print_line(rt: &impl Print, number: u64, line: &mut [u8]) -> io::Result<()>
     requires { 0 < length line.old }
 {
     let mut left = number;
@@ -44,74 +69,72 @@ fn print_line(number: u64, line: &mut [u8])
         line[i] = digits::digit((left % 16) as u8);
         left /= 16;
     }
-    io::write_all(libc::STDOUT_FILENO, line);
+    rt.write_all(line)
 }
 
-fn print_word(word: u32) {
+fn print_word(rt: &impl Print, word: u32) -> io::Result<()> {
     let mut line = [0; 9];
-    print_line(word as u64, &mut line);
+    print_line(rt, u64::from(word), &mut line)
 }
 
-fn print_words(words: &[u32]) {
-    let mut i: usize = 0;
-    while i < words.len() {
-        print_word(words[i]);
-        i += 1;
+fn print_words(rt: &impl Print, words: &[u32]) -> io::Result<()> {
+    for word in words {
+        print_word(rt, *word)?;
     }
+    Ok(())
 }
 
 // Finds the reached instances of a text, and prints the reply and then the table.
-fn print_found(text: &[u8], table: &mut [u32]) {
+fn print_found(rt: &impl Print, text: &[u8], table: &mut [u32]) -> io::Result<()> {
     let mut line = [0; 17];
-    print_line(checker::devashtor_find(text, table), &mut line);
-    print_words(table);
-    io::write_all(libc::STDOUT_FILENO, b"\n");
+    print_line(rt, checker::devashtor_find(text, table), &mut line)?;
+    print_words(rt, table)?;
+    rt.write_all(b"\n")
 }
 
 // Reads how many words are lent and a text as long as the buffer, and finds.
-pub fn find(buffer: &mut [u8]) {
+pub fn find(rt: &(impl Input + Print), buffer: &mut [u8]) -> io::Result<()> {
     let mut table = words_lent();
-    let count = read_count();
-    let n = io::read_full(libc::STDIN_FILENO, buffer);
-    print_found(&buffer[..n], &mut table[..count]);
+    let count = read_count(rt)?;
+    let n = read_full(rt, buffer)?;
+    print_found(rt, &buffer[..n], &mut table[..count])
 }
 
 // Reads a line with a word: eight digits, the high byte first.
-fn read_word() -> u32 {
+fn read_word(rt: &impl Input) -> io::Result<u32> {
     let mut line = [0; 9];
-    io::read_full(libc::STDIN_FILENO, &mut line);
-    let high = digits::byte(&line, 0) as u32 * 256 + digits::byte(&line, 1) as u32;
-    let low = digits::byte(&line, 2) as u32 * 256 + digits::byte(&line, 3) as u32;
-    high * 65536 + low
+    read_full(rt, &mut line)?;
+    let high = u32::from(digits::byte(&line, 0)) * 256 + u32::from(digits::byte(&line, 1));
+    let low = u32::from(digits::byte(&line, 2)) * 256 + u32::from(digits::byte(&line, 3));
+    Ok(high * 65536 + low)
 }
 
 // Reads as many words as the list has.
-fn read_list(list: &mut [u32]) {
-    let mut i: usize = 0;
-    while i < list.len() {
-        list[i] = read_word();
-        i += 1;
+fn read_list(rt: &impl Input, list: &mut [u32]) -> io::Result<()> {
+    for word in list {
+        *word = read_word(rt)?;
     }
+    Ok(())
 }
 
 // Solves the list of a text and prints the answer.
-fn print_solved(text: &[u8], list: &[u32]) {
+fn print_solved(rt: &impl Print, text: &[u8], list: &[u32]) -> io::Result<()> {
     let mut out = answer_buffer();
     let written = checker::devashtor_solve(text, list, &mut out);
-    io::write_all(libc::STDOUT_FILENO, &out[..written]);
-    io::write_all(libc::STDOUT_FILENO, b"\n");
+    rt.write_all(&out[..written])?;
+    rt.write_all(b"\n")
 }
 
 // Reads a list and a text, each as long as its buffer, and solves.
-fn solving(buffer: &mut [u8], list: &mut [u32]) {
-    read_list(list);
-    let n = io::read_full(libc::STDIN_FILENO, buffer);
-    print_solved(&buffer[..n], list);
+fn solving(rt: &(impl Input + Print), buffer: &mut [u8], list: &mut [u32]) -> io::Result<()> {
+    read_list(rt, list)?;
+    let n = read_full(rt, buffer)?;
+    print_solved(rt, &buffer[..n], list)
 }
 
 // Reads how many words the list has, the list, and a text as long as the buffer, and solves.
-pub fn solve(buffer: &mut [u8]) {
+pub fn solve(rt: &(impl Input + Print), buffer: &mut [u8]) -> io::Result<()> {
     let mut list = words_lent();
-    let count = read_count();
-    solving(buffer, &mut list[..count]);
+    let count = read_count(rt)?;
+    solving(rt, buffer, &mut list[..count])
 }
