@@ -2,7 +2,6 @@
 -- Past the end of a list `get_or` gives its default.
 use mathlib.Core.Path.{sym}
 use lib.ListN.{get_or-eq_default}
-use borrow.Author.Rules.{rules}
 use Rattle.basics.proofs.element.Goals as goal
 
 pub returns-else-i-list : goal.returns-else-i-list

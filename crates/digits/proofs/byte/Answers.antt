@@ -1,7 +1,6 @@
 -- `digits::byte` meets its contract.
 -- Past the last byte stands none; before it, the worths of two characters.
 use mathlib.Core.Path.{sym, ◌∙◌}
-use borrow.Author.Rules.{rules}
 use Rattle.digits.proofs.Pairs.{byte_in, byte_beyond}
 use Rattle.digits.proofs.byte.Goals as goal
 

@@ -1,11 +1,8 @@
 -- `digits::bytes` meets its contract.
 -- The places below i are filled.
-use Prim.Native.Nat.{◌-◌}
 use native.Mathlib.Omega.{arith}
-use Rattle.digits.specs.Digits.{bytes_of}
 use Rattle.digits.proofs.Pairs.{length_bytes}
-use Rattle.digits.proofs.Filled.{Filling, filling_start, filling_more, all_filled}
-use borrow.Author.Rules.{rules}
+use Rattle.digits.proofs.Filled.{filling_start, filling_more, all_filled}
 use Rattle.digits.proofs.bytes.Goals as goal
 
 pub loop-i-preserved : goal.loop-i-preserved

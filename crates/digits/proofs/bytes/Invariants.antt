@@ -1,11 +1,8 @@
 -- `digits::bytes` meets its contract.
 -- The places below i are filled.
 use Prim.Native.Nat.{◌-◌}
-use native.Mathlib.Omega.{arith}
 use Rattle.digits.specs.Digits.{bytes_of}
-use Rattle.digits.proofs.Pairs.{length_bytes}
-use Rattle.digits.proofs.Filled.{Filling, filling_start, filling_more, all_filled}
-use borrow.Author.Rules.{rules}
+use Rattle.digits.proofs.Filled.{Filling}
 use Rattle.digits.proofs.bytes.Given as goal
 
 abbrev pub invariant-loop-i : goal.invariant-loop-i

@@ -1,7 +1,6 @@
 -- `digits::digit` meets its contract.
 -- Each branch is a branch of `digit_of`.
 use borrow.Author.Tests.{le-leb, lt-leb}
-use borrow.Author.Rules.{rules}
 use Rattle.digits.proofs.digit.Goals as goal
 
 pub returns-then-n-le9 : goal.returns-then-n-le9

@@ -1,7 +1,6 @@
 -- `digits::pair` meets its contract.
 -- Each branch is a branch of `pair_of`.
 use borrow.Author.Tests.{le-leb, lt-leb}
-use borrow.Author.Rules.{rules}
 use Rattle.digits.proofs.pair.Goals as goal
 
 pub returns-then-high-gt15 : goal.returns-then-high-gt15

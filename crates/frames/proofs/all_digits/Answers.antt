@@ -1,12 +1,8 @@
 -- `frames::all_digits` meets its contract.
 -- What is left to look at decides.
 use native.Mathlib.Omega.{arith}
-use Prim.Native.Nat.{◌-◌, ◌≤◌}
-use mathlib.Core.Path.{◌≡◌, refl, sym, ◌∙◌}
-use lib.ListN.{length, drop}
-use Rattle.frames.specs.Lines.{all_digits}
+use mathlib.Core.Path.{refl, sym, ◌∙◌}
 use Rattle.frames.proofs.Ends.{digits_none, digits_no, digits_yes}
-use borrow.Author.Rules.{rules}
 use Rattle.frames.proofs.all_digits.Goals as goal
 
 pub returns-then-worth-gt15 : goal.returns-then-worth-gt15

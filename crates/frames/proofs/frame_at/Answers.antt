@@ -1,8 +1,6 @@
 -- `frames::frame_at` meets its contract.
 -- One law for each way out.
 use mathlib.Core.Path.{◌∙◌}
-use borrow.Author.Rules.{rules}
-use borrow.Author.Tests.{not-true, not-false}
 use Rattle.frames.proofs.At.{no_digit, wrong_size, a_frame}
 use Rattle.frames.proofs.frame_at.Goals as goal
 

@@ -1,7 +1,6 @@
 -- `frames::is_valid_line` meets its contract.
 -- All tests hold.
 use mathlib.Core.Path.{refl}
-use borrow.Author.Rules.{rules}
 use Rattle.frames.proofs.is_valid_line.Goals as goal
 
 pub returns : goal.returns

@@ -1,11 +1,9 @@
 -- `frames::line_end` meets its contract.
 -- What is left of the line decides how far past i it ends.
-use native.Mathlib.Omega.{arith}
 use Prim.Native.Nat.{◌+◌, ◌-◌, ◌≤◌}
 use mathlib.Core.Path.{◌≡◌}
 use lib.ListN.{length, drop}
 use Rattle.frames.specs.FrameAt.{first_length}
-use Rattle.frames.proofs.Ends.{size_past, size_hit, size_end}
 use Rattle.frames.proofs.line_end.Given as goal
 
 abbrev pub invariant-loop-i : goal.invariant-loop-i

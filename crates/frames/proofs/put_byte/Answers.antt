@@ -2,7 +2,6 @@
 -- Two stores are the run of the byte's two digits.
 use mathlib.Core.Path.{refl}
 use native.Mathlib.Numerals.{add-one}
-use borrow.Author.Rules.{rules}
 use Rattle.frames.proofs.put_byte.Goals as goal
 
 pub returns : goal.returns

@@ -1,12 +1,9 @@
 -- `frames::put_line` meets its contract.
 -- The line is left out, or before turn i the line from byte i on is still to be written.
-use Prim.Native.Nat.{◌-◌}
-use native.Mathlib.Omega.{arith}
 use mathlib.Core.Path.{refl, sym, ◌∙◌}
-use lib.ListN.{length, length-set}
-use borrow.Author.Rules.{rules}
-use borrow.Author.Tests.{leb-true, not-true, not-false}
-use Rattle.frames.proofs.Stores.{Writing, writing_start, writing_more, writing_done, no_room}
+use lib.ListN.{length-set}
+use borrow.Author.Tests.{leb-true}
+use Rattle.frames.proofs.Stores.{writing_start, writing_more, writing_done, no_room}
 use Rattle.frames.proofs.put_line.Goals as goal
 
 pub returns-then-not-fits : goal.returns-then-not-fits

@@ -1,12 +1,8 @@
 -- `frames::put_line` meets its contract.
 -- The line is left out, or before turn i the line from byte i on is still to be written.
 use Prim.Native.Nat.{◌-◌}
-use native.Mathlib.Omega.{arith}
-use mathlib.Core.Path.{refl, sym, ◌∙◌}
-use lib.ListN.{length, length-set}
-use borrow.Author.Rules.{rules}
-use borrow.Author.Tests.{leb-true, not-true, not-false}
-use Rattle.frames.proofs.Stores.{Writing, writing_start, writing_more, writing_done, no_room}
+use lib.ListN.{length}
+use Rattle.frames.proofs.Stores.{Writing}
 use Rattle.frames.proofs.put_line.Given as goal
 
 abbrev pub invariant-loop-i : goal.invariant-loop-i

@@ -7,7 +7,7 @@ use mir.Val.{Fits}
 use lib.ListN.{get_or}
 use lib.Count.{ones, ones-le}
 use Rattle.truth.proofs.Bits.{count_word}
-use Prim.Native.Nat.{ℕ, ◌≤◌, ◌+◌, ◌-◌, ◌*◌}
+use Prim.Native.Nat.{ℕ, ◌≤◌, ◌+◌, ◌*◌}
 use native.Mathlib.Omega.{arith}
 use Rattle.truth.specs.Bits.{bit_of, count_below}
 use Rattle.truth.proofs.count.Goals as goal

@@ -1,14 +1,7 @@
 -- `truth::count` meets its contract: the ones of the words passed are the count of the bits below their end.
 -- Each word adds its own ones.
-use mathlib.Core.Path.{◌≡◌, refl, sym, ap, ◌∙◌}
-use borrow.Author.Rules.{rules}
-use mir.Syntax.{w64}
-use mir.Val.{Fits}
-use lib.ListN.{get_or}
-use lib.Count.{ones, ones-le}
-use Rattle.truth.proofs.Bits.{count_word}
-use Prim.Native.Nat.{ℕ, ◌≤◌, ◌+◌, ◌-◌, ◌*◌}
-use native.Mathlib.Omega.{arith}
+use mathlib.Core.Path.{◌≡◌}
+use Prim.Native.Nat.{◌≤◌, ◌-◌, ◌*◌}
 use Rattle.truth.specs.Bits.{bit_of, count_below}
 use Rattle.truth.proofs.count.Given as goal
 

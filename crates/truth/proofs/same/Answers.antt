@@ -7,7 +7,6 @@ use mir.Val.{Fits}
 use lib.Seq.{ext_get_or}
 use Rattle.truth.specs.Bits.{bit_of}
 use Rattle.truth.proofs.Bits.{same_word, same_of, same_not}
-use Prim.Native.Nat.{ℕ, ◌≤◌, ◌<◌, ◌-◌}
 use native.Mathlib.Omega.{arith}
 use borrow.Author.Count.{below_none, below_more}
 use lib.ListN.{length, get_or}

@@ -8,8 +8,7 @@ use mir.Val.{Fits}
 use lib.Count.{count_leading_zeros}
 use borrow.Author.Rules.{rules}
 use Rattle.truth.specs.Bits.{bit_of}
-use Rattle.truth.specs.Rows.{row_of, unlike_in}
-use Rattle.truth.proofs.RowWords.{Passed, passed_none, passed_all, passed_more, passed_top, leading_small}
+use Rattle.truth.proofs.RowWords.{passed_none, passed_all, passed_more, passed_top, leading_small}
 use Rattle.truth.proofs.RowWords.{word_unlike, past_unlike}
 use Rattle.truth.proofs.RowLaws.{last_nowhere}
 use Rattle.truth.proofs.rows.last_unlike.Goals as goal

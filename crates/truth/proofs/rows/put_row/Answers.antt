@@ -6,7 +6,7 @@ use native.Mathlib.Nat.{add-zero}
 use native.Mathlib.Omega.{arith}
 use lib.ListN.{length, get_or}
 use borrow.Author.Tests.{le-leb, lt-leb}
-use Rattle.truth.proofs.RowWords.{FromRow, Filled, fill_none, fill_more, row_put}
+use Rattle.truth.proofs.RowWords.{fill_none, fill_more, row_put}
 use Rattle.truth.proofs.rows.put_row.Goals as goal
 
 pub returns-then-ws-i : goal.returns-then-ws-i

@@ -1,12 +1,7 @@
 -- `rows::put_row` meets its contract: each turn writes one word of the row.
 -- Where the row is not there with all of its words both sides are the list itself.
-use mathlib.Core.Path.{◌≡◌, refl, ap}
-use Prim.Native.Nat.{ℕ, ◌+◌, ◌-◌, ◌*◌, ◌≤◌, ◌<◌}
-use native.Mathlib.Nat.{add-zero}
-use native.Mathlib.Omega.{arith}
-use lib.ListN.{length, get_or}
-use borrow.Author.Tests.{le-leb, lt-leb}
-use Rattle.truth.proofs.RowWords.{FromRow, Filled, fill_none, fill_more, row_put}
+use Prim.Native.Nat.{◌+◌, ◌-◌, ◌*◌, ◌≤◌}
+use Rattle.truth.proofs.RowWords.{FromRow, Filled}
 use Rattle.truth.proofs.rows.put_row.Given as goal
 
 abbrev pub invariant-loop-word : goal.invariant-loop-word

@@ -1,15 +1,9 @@
 -- `rows::with_unlike` meets its contract: each turn joins one word.
 -- The eight words are those of the set that is promised, and it has nothing from 512 on.
-use mathlib.Core.Path.{◌≡◌, refl, ap, ◌∙◌}
-use Prim.Native.Nat.{ℕ, ◌-◌, ◌≤◌}
-use native.Mathlib.Omega.{arith}
-use lib.Bits.{bit_or}
-use lib.ListN.{length}
-use borrow.Author.Rules.{rules}
+use Prim.Native.Nat.{◌-◌, ◌≤◌}
 use Rattle.truth.specs.Bits.{bit_of}
 use Rattle.truth.specs.Rows.{row_of, unlike_in, joined}
-use Rattle.truth.proofs.RowWords.{Word, Filled, fill_none, fill_more, by_words}
-use Rattle.truth.proofs.RowWords.{word_unlike, past_unlike, word_joined, joined_none, joined_past}
+use Rattle.truth.proofs.RowWords.{Word, Filled}
 use Rattle.truth.proofs.rows.with_unlike.Given as goal
 
 abbrev pub invariant-loop-word : goal.invariant-loop-word

@@ -2,7 +2,6 @@
 -- The library's law of a list past its end says so.
 use mathlib.Core.Path.{sym}
 use lib.ListN.{get_or-eq_default}
-use borrow.Author.Rules.{rules}
 use Rattle.truth.proofs.rows.word_at.Goals as goal
 
 pub returns-else-at-rows : goal.returns-else-at-rows
