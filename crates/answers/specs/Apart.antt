@@ -1,7 +1,7 @@
 -- REQUEST 2026-05: solving a list that is lent: when it gives 11, in which order, and what it answers
 -- otherwise; and `check` is finding and solving after each other, in what is answered and what is printed.
 -- Where 11 is not due, solving answers what `check` answers with room for 512: the rest is read off that.
-use Rattle.std.specs.Prelude.{ℕ, ◌≤◌, ◌<◌, ◌≡◌, Bool, cond, List, [], ◌++◌, map, ◌⊎◌, eqb, ltb, leb, length, take, drop}
+use Rattle.std.specs.Prelude.{ℕ, ◌≤◌, ◌<◌, ◌≡◌, Bool, cond, List, [], map, ◌⊎◌, eqb, ltb, leb, length, take}
 use Rattle.std.proofs.Common.{arith, sym, subst, ◌∙◌, inl, inr, ltb-true, ltb-false, leb-true, leb-false, eqb-true}
 use Rattle.std.proofs.Math.Path.{refl, ap}
 use Rattle.std.proofs.Math.Bool.{true, false}
@@ -19,7 +19,7 @@ use Rattle.answers.specs.Answers.{table_after_check, is_found, list_answer, solv
 use Rattle.answers.specs.Printed.{answer_lines, printed, printed_solved}
 use Rattle.answers.specs.Demand1.{◌exactly_when◌, first_short_list, then_text, then_verdict}
 use Rattle.answers.specs.Demand1.{verdict_given, nine_given, text_number_given, number_at_most_9}
-use Rattle.answers.specs.Demand1.{refusal_clear, table_listed, records_enough}
+use Rattle.answers.specs.Demand1.{refusal_clear, table_listed}
 use Rattle.answers.specs.Demand2.{start_first, verdict_answered, verdict_read, verdict_room, answered}
 
 -- the whole lent list is the reached list of the text's model, and has not over 512 words

@@ -12,7 +12,7 @@ use Rattle.std.proofs.Math.ListN.{length-map, get_or-map, get_or-eq_default}
 use Rattle.meaning.specs.Logic.{Is, is, never}
 use Rattle.meaning.specs.Solution.{Args, mem, solution}
 use Rattle.meaning.specs.Models.{system, nowhere, meaning}
-use Rattle.meaning.specs.Reach.{Instance, next, reached}
+use Rattle.meaning.specs.Reach.{Instance, next}
 use Rattle.meaning.specs.Ranges.{signatures, typed, well_formed}
 use Rattle.meaning.specs.Words.{word}
 use Rattle.meaning.specs.Members.{Once}

@@ -43,8 +43,7 @@ unfolding instances_judged
 instances_passed sigs [] others e = ((λ j h. absurd (omega arith)), e)
 instances_passed sigs (f ∷ es) others e =
     let here = passed number_of (is_fitting sigs (body_in f.bytes) (ranges_in f.bytes)) e (omega arith) in
-    let more = instances_passed sigs es others here.1 in
-    (
+    let more = instances_passed sigs es others here.1 in (
       λ j. elim j as (λ k. k < length (f ∷ es) → let g = (get_or (f ∷ es) k no_frame).bytes in
           is_fitting sigs (body_in g) (ranges_in g) ≡ true)
           [ zero ↦ λ h. here.0 | suc j ↦ λ h. more.0 j (omega arith) ],

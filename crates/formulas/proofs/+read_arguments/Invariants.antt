@@ -1,5 +1,3 @@
-use Prim.Native.Nat.{ℕ, ◌<◌}
-use mathlib.Core.Path.{◌≡◌}
 use Rattle.formulas.proofs.+read_arguments.Given as goal
 
 abbrev pub decreases-read_arguments : goal.decreases-read_arguments

@@ -1,5 +1,4 @@
-use Prim.Native.Nat.{ℕ, ◌+◌, ◌-◌, ◌/◌, ◌<◌}
-use mathlib.Core.Path.{◌≡◌}
+use Prim.Native.Nat.{◌+◌, ◌-◌, ◌/◌}
 use Rattle.formulas.proofs.+read_formula.Given as goal
 
 abbrev pub decreases-read_formula : goal.decreases-read_formula

@@ -1,6 +1,5 @@
 -- `formulas::condition_end` meets its contract.
 -- The formula at the place, read with four quantifiers around it and no equation to name.
-use borrow.Author.Rules.{rules}
 use native.Mathlib.Omega.{arith}
 use mathlib.Core.Path.{◌∙◌}
 use Rattle.formulas.specs.Tuples.{items}

@@ -1,7 +1,6 @@
 -- `formulas::end_of` meets its contract.
 -- Each way of the choice is what the test says.
 use mathlib.Core.Path.{refl}
-use borrow.Author.Rules.{rules}
 use Rattle.formulas.proofs.end_of.Goals as goal
 
 pub returns-then-and : goal.returns-then-and

@@ -2,7 +2,6 @@
 -- Something was read, and it ends where the body ends.
 use mathlib.Core.Path.{◌∙◌}
 use Rattle.formulas.proofs.Bodies.{body_judged}
-use borrow.Author.Rules.{rules}
 use Rattle.formulas.proofs.is_body.Goals as goal
 
 pub returns : goal.returns

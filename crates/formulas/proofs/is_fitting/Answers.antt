@@ -1,7 +1,6 @@
 -- `formulas::is_fitting` meets its contract.
 -- What is told of the formula that was read; where none was read, nothing is wrong with its instances.
 use Rattle.formulas.proofs.Bodies.{fitting_found, fitting_lost}
-use borrow.Author.Rules.{rules}
 use Rattle.formulas.proofs.is_fitting.Goals as goal
 
 pub returns-then-a : goal.returns-then-a

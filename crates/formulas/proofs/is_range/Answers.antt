@@ -2,7 +2,6 @@
 -- Both tests hold.
 use mathlib.Core.Path.{◌∙◌}
 use Rattle.formulas.proofs.Fitting.{and_same}
-use borrow.Author.Rules.{rules}
 use Rattle.formulas.proofs.is_range.Goals as goal
 
 pub returns : goal.returns

@@ -3,7 +3,6 @@
 use lib.ListN.{length}
 use Rattle.formulas.proofs.Told.{told_whole}
 use Rattle.formulas.proofs.Bodies.{body_long, body_read}
-use borrow.Author.Rules.{rules}
 use native.Mathlib.Omega.{arith}
 use Rattle.formulas.proofs.read_body.Goals as goal
 

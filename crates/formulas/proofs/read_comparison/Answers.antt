@@ -2,7 +2,6 @@
 -- Where the first can't be read there are no two.
 use native.Mathlib.Omega.{arith}
 use mathlib.Core.Path.{refl}
-use borrow.Author.Rules.{rules}
 use borrow.Author.Tests.{not-true, not-false}
 use Rattle.formulas.proofs.ByKind as law
 use Rattle.formulas.proofs.read_comparison.Goals as goal

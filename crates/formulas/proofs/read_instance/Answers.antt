@@ -6,8 +6,6 @@ use lib.ListN.{get_or}
 use Rattle.formulas.specs.Tuples.{items}
 use Rattle.formulas.proofs.ByKind.{instance_no, instance_read}
 use Rattle.formulas.proofs.Fitting.{named_fits}
-use borrow.Author.Rules.{rules}
-use native.Mathlib.Omega.{arith}
 use Rattle.formulas.proofs.read_instance.Goals as goal
 
 pub returns-then-c-gt4 : goal.returns-then-c-gt4

@@ -1,6 +1,5 @@
 -- `formulas::terms_end` meets its contract.
 -- The terms are read as arguments, against the ranges as the first bytes of a table.
-use borrow.Author.Rules.{rules}
 use native.Mathlib.Omega.{arith}
 use mathlib.Core.Path.{ap, ◌∙◌}
 use lib.ListN.{length, length-take}

@@ -1,7 +1,6 @@
 -- `looked::looks_at` meets its contract.
 -- A variable past the eighth is in every set; of the others the set's digit tells.
 use mathlib.Core.Path.{refl}
-use borrow.Author.Rules.{rules}
 use borrow.Author.Tests.{le-leb, lt-leb}
 use Rattle.looked.specs.Looked.{looks_at}
 use Rattle.looked.proofs.looks_at.Goals as goal

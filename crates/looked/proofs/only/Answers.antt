@@ -1,10 +1,9 @@
 -- `looked::only` meets its contract.
 -- The eighth power of 2 is the first that a byte does not hold.
-use Prim.Native.Nat.{ℕ, ◌*◌, ◌^◌, ◌<◌}
+use Prim.Native.Nat.{◌^◌, ◌<◌}
 use native.Mathlib.Nat.{mod-eq_of_lt, one-mul}
-use mathlib.Core.Path.{refl, ◌∙◌}
+use mathlib.Core.Path.{refl}
 use lib.Pow.{pow-lt}
-use borrow.Author.Rules.{rules}
 use borrow.Author.Tests.{lt-ltb, le-ltb}
 use Rattle.looked.specs.Looked.{only}
 use Rattle.looked.proofs.only.Goals as goal

@@ -2,7 +2,6 @@
 -- The definition makes the same test.
 use mathlib.Core.Path.{refl}
 use borrow.Author.Tests.{lt-ltb, le-ltb}
-use borrow.Author.Rules.{rules}
 use Rattle.prepared.specs.Prepared.{byte_at}
 use Rattle.prepared.proofs.byte_at.Goals as goal
 

@@ -1,16 +1,15 @@
 -- `reading::read_lines` meets its contract.
 -- The refusal of the text is that of what is left, after the frames that are done, which the structs hold.
-use Prim.Native.Nat.{ℕ, ◌+◌, ◌-◌, ◌≤◌, ◌<◌}
+use Prim.Native.Nat.{ℕ, ◌≤◌, ◌<◌}
 use native.Mathlib.Omega.{arith}
 use mathlib.Core.Path.{◌≡◌, sym, ap, ◌∙◌}
 use mathlib.Core.List.{List, [], ◌∷◌, ◌++◌, append_assoc, append-nil}
 use lib.ListN.{length, get_or, take, length-replicate}
 use lib.Seq.{length-take-le}
 use Rattle.frames.specs.Lines.{line_place}
-use Rattle.frames.specs.Frames.{Frame, Frames, frames}
-use Rattle.reading.specs.declared.Model.{Model}
+use Rattle.frames.specs.Frames.{Frames}
 use Rattle.reading.specs.Reading.{refused, text_refusal}
-use Rattle.reading.proofs.Drafts.{Drafted, drafted_as, frame_of, count_is, unstarted_is, drafted_none, drafted_more}
+use Rattle.reading.proofs.Drafts.{drafted_as, frame_of, count_is, unstarted_is, drafted_none, drafted_more}
 use Rattle.reading.proofs.Drafts.{refusal_after, not_ninth}
 use Rattle.reading.proofs.Turns as turn
 use Rattle.reading.proofs.Turns.{judged, frames_at, Begins}
@@ -48,8 +47,8 @@ pub returns-then-number-ne0 : goal.returns-then-number-ne0
 returns-then-number-ne0 c =
     let bytes : List ℕ = let f = c.frame_at-f.result in take f.size f.bytes in
     let frame_judged : let done = c.loop-at.invariant.done in c.frame_refusal-number.result ≡ refusal_after done bytes =
-        let d = c.loop-at.invariant.drafted in
-            rw (count_is d, unstarted_is d) at c.frame_refusal-number.ensures in
+    let d = c.loop-at.invariant.drafted in
+    rw (count_is d, unstarted_is d) at c.frame_refusal-number.ensures in
     let loop = c.loop-at in
     law.lines_refused _ _ _ _ c.stop-then-number-ne0.ensures c.if-number-ne0.true
     (loop.invariant.left ∙ turn.frame_stops _ _ _ _ c.loop-at-test.true c.frame_at-f.ensures
@@ -60,41 +59,41 @@ pub keep_body-requires : goal.keep_body-requires
 keep_body-requires c =
     let bytes : List ℕ = let f = c.frame_at-f.result in take f.size f.bytes in
     let small : c.frame_at-f.result.size ≤ 256 =
-        turn.small _ _ c.frame_at-f.ensures c.if-f-ne0.false in
+    turn.small _ _ c.frame_at-f.ensures c.if-f-ne0.false in
     let room : let f = c.frame_at-f.result in f.size ≤ length f.bytes =
-        let n : length c.frame_at-f.result.bytes ≡ 256 = search rules in rw n small in
+    let n : length c.frame_at-f.result.bytes ≡ 256 = search rules in rw n small in
     let taken : length bytes ≡ c.frame_at-f.result.size = length-take-le _ _ room in
     let frame_judged : let done = c.loop-at.invariant.done in c.frame_refusal-number.result ≡ refusal_after done bytes =
-        let d = c.loop-at.invariant.drafted in
-            rw (count_is d, unstarted_is d) at c.frame_refusal-number.ensures in
+    let d = c.loop-at.invariant.drafted in
+    rw (count_is d, unstarted_is d) at c.frame_refusal-number.ensures in
     let passed : refusal_after c.loop-at.invariant.done bytes ≡ 0 =
-        sym frame_judged ∙ c.if-number-ne0.false in
+    sym frame_judged ∙ c.if-number-ne0.false in
     let few : get_or bytes 0 0 ≡ 1 → c.loop-at.m.count < 8 =
-        let p = c.loop-at.invariant in not_ninth p.drafted _ _ _ p.begins.place passed in
+    let p = c.loop-at.invariant in not_ninth p.drafted _ _ _ p.begins.place passed in
     (rw taken small, few, law.bodies_long c.loop-at.invariant.drafted)
 
 pub with_frame-m-requires : goal.with_frame-m-requires
 with_frame-m-requires c =
     let bytes : List ℕ = let f = c.frame_at-f.result in take f.size f.bytes in
     let frame_judged : let done = c.loop-at.invariant.done in c.frame_refusal-number.result ≡ refusal_after done bytes =
-        let d = c.loop-at.invariant.drafted in
-            rw (count_is d, unstarted_is d) at c.frame_refusal-number.ensures in
+    let d = c.loop-at.invariant.drafted in
+    rw (count_is d, unstarted_is d) at c.frame_refusal-number.ensures in
     let passed : refusal_after c.loop-at.invariant.done bytes ≡ 0 =
-        sym frame_judged ∙ c.if-number-ne0.false in
+    sym frame_judged ∙ c.if-number-ne0.false in
     let few : get_or bytes 0 0 ≡ 1 → c.loop-at.m.count < 8 =
-        let p = c.loop-at.invariant in not_ninth p.drafted _ _ _ p.begins.place passed in
+    let p = c.loop-at.invariant in not_ninth p.drafted _ _ _ p.begins.place passed in
     (omega (arith, c.loop-at.invariant.short, c.loop-at-test.true), few)
 
 pub loop-at-preserved : goal.loop-at-preserved
 loop-at-preserved c =
     let bytes : List ℕ = let f = c.frame_at-f.result in take f.size f.bytes in
     let frame_judged : let done = c.loop-at.invariant.done in c.frame_refusal-number.result ≡ refusal_after done bytes =
-        let d = c.loop-at.invariant.drafted in
-            rw (count_is d, unstarted_is d) at c.frame_refusal-number.ensures in
+    let d = c.loop-at.invariant.drafted in
+    rw (count_is d, unstarted_is d) at c.frame_refusal-number.ensures in
     let passed : refusal_after c.loop-at.invariant.done bytes ≡ 0 =
-        sym frame_judged ∙ c.if-number-ne0.false in
+    sym frame_judged ∙ c.if-number-ne0.false in
     let near : let end = c.frame_at-f.result.end in (c.loop-at.at ≤ end) × (end ≤ length c.args.text.now) =
-        turn.end_near _ _ c.frame_at-f.ensures c.loop-at-test.true in
+    turn.end_near _ _ c.frame_at-f.ensures c.loop-at-test.true in
     let read = c.frame_at-f in
     let loop = c.loop-at in
     let p = loop.invariant in
@@ -132,37 +131,37 @@ finish-requires c =
 pub shape_of-bodies-then-f-ne0 : goal.shape_of-bodies-then-f-ne0
 shape_of-bodies-then-f-ne0 c =
     let long : length c.loop-at.bodies ≡ length c.args.bodies.now =
-        law.bodies_long c.loop-at.invariant.drafted ∙ sym (ap length c.requires ∙ length-replicate {A = ℕ} 2048 0) in
+    law.bodies_long c.loop-at.invariant.drafted ∙ sym (ap length c.requires ∙ length-replicate {A = ℕ} 2048 0) in
     long
 
 pub slice_bounds-bytes-end : goal.slice_bounds-bytes-end
 slice_bounds-bytes-end c =
     let small : c.frame_at-f.result.size ≤ 256 =
-        turn.small _ _ c.frame_at-f.ensures c.if-f-ne0.false in
+    turn.small _ _ c.frame_at-f.ensures c.if-f-ne0.false in
     let room : let f = c.frame_at-f.result in f.size ≤ length f.bytes =
-        let n : length c.frame_at-f.result.bytes ≡ 256 = search rules in rw n small in
+    let n : length c.frame_at-f.result.bytes ≡ 256 = search rules in rw n small in
     room
 
 pub slice_bounds-frame-end : goal.slice_bounds-frame-end
 slice_bounds-frame-end c =
     let bytes : List ℕ = let f = c.frame_at-f.result in take f.size f.bytes in
     let small : c.frame_at-f.result.size ≤ 256 =
-        turn.small _ _ c.frame_at-f.ensures c.if-f-ne0.false in
+    turn.small _ _ c.frame_at-f.ensures c.if-f-ne0.false in
     let room : let f = c.frame_at-f.result in f.size ≤ length f.bytes =
-        let n : length c.frame_at-f.result.bytes ≡ 256 = search rules in rw n small in
+    let n : length c.frame_at-f.result.bytes ≡ 256 = search rules in rw n small in
     let taken : length bytes ≡ c.frame_at-f.result.size = length-take-le _ _ room in
     sym taken
 
 pub shape_of-bodies-then-number-ne0 : goal.shape_of-bodies-then-number-ne0
 shape_of-bodies-then-number-ne0 c =
     let long : length c.loop-at.bodies ≡ length c.args.bodies.now =
-        law.bodies_long c.loop-at.invariant.drafted ∙ sym (ap length c.requires ∙ length-replicate {A = ℕ} 2048 0) in
+    law.bodies_long c.loop-at.invariant.drafted ∙ sym (ap length c.requires ∙ length-replicate {A = ℕ} 2048 0) in
     long
 
 pub overflow_add-at : goal.overflow_add-at
 overflow_add-at c =
     let near : let end = c.frame_at-f.result.end in (c.loop-at.at ≤ end) × (end ≤ length c.args.text.now) =
-        turn.end_near _ _ c.frame_at-f.ensures c.loop-at-test.true in
+    turn.end_near _ _ c.frame_at-f.ensures c.loop-at-test.true in
     omega (arith, near, c.loop-at.invariant.short)
 
 pub overflow_add-line : goal.overflow_add-line
@@ -171,11 +170,11 @@ overflow_add-line c = omega (arith, c.loop-at.invariant)
 pub loop-at-smaller : goal.loop-at-smaller
 loop-at-smaller c =
     let near : let end = c.frame_at-f.result.end in (c.loop-at.at ≤ end) × (end ≤ length c.args.text.now) =
-        turn.end_near _ _ c.frame_at-f.ensures c.loop-at-test.true in
+    turn.end_near _ _ c.frame_at-f.ensures c.loop-at-test.true in
     omega (arith, near)
 
 pub shape_of-bodies : goal.shape_of-bodies
 shape_of-bodies c =
     let long : length c.loop-at.bodies ≡ length c.args.bodies.now =
-        law.bodies_long c.loop-at.invariant.drafted ∙ sym (ap length c.requires ∙ length-replicate {A = ℕ} 2048 0) in
+    law.bodies_long c.loop-at.invariant.drafted ∙ sym (ap length c.requires ∙ length-replicate {A = ℕ} 2048 0) in
     long

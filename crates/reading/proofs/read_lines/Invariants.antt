@@ -1,22 +1,15 @@
 -- `reading::read_lines` meets its contract.
 -- The refusal of the text is that of what is left, after the frames that are done, which the structs hold.
-use Prim.Native.Nat.{ℕ, ◌+◌, ◌-◌, ◌≤◌, ◌<◌}
-use native.Mathlib.Omega.{arith}
-use mathlib.Core.Path.{◌≡◌, sym, ap, ◌∙◌}
-use mathlib.Core.List.{List, [], ◌∷◌, ◌++◌, append_assoc, append-nil}
-use lib.ListN.{length, get_or, take, length-replicate}
-use lib.Seq.{length-take-le}
+use Prim.Native.Nat.{ℕ, ◌+◌, ◌-◌, ◌≤◌}
+use mathlib.Core.Path.{◌≡◌}
+use mathlib.Core.List.{List, ◌++◌}
+use lib.ListN.{length}
 use Rattle.frames.specs.Lines.{line_place}
-use Rattle.frames.specs.Frames.{Frame, Frames, frames}
+use Rattle.frames.specs.Frames.{Frame, frames}
 use Rattle.reading.specs.declared.Model.{Model}
-use Rattle.reading.specs.Reading.{refused, text_refusal}
-use Rattle.reading.proofs.Drafts.{Drafted, drafted_as, frame_of, count_is, unstarted_is, drafted_none, drafted_more}
-use Rattle.reading.proofs.Drafts.{refusal_after, not_ninth}
-use Rattle.reading.proofs.Turns as turn
+use Rattle.reading.specs.Reading.{text_refusal}
+use Rattle.reading.proofs.Drafts.{Drafted}
 use Rattle.reading.proofs.Turns.{judged, frames_at, Begins}
-use Rattle.reading.proofs.Finishing as law
-use Rattle.reading.proofs.LineNumbers.{long_text_one}
-use borrow.Author.Rules.{rules}
 use Rattle.reading.proofs.read_lines.Given as goal
 
 pub record Progress (text bodies : List ℕ) (m : Model) (at line : ℕ) : Type 0 where

@@ -1,7 +1,6 @@
 -- `reading::read_model` meets its contract.
 -- The lines give the refusal or the model, and the bodies.
 use Rattle.reading.proofs.Finishing.{reading_refused, reading_read}
-use borrow.Author.Rules.{rules}
 use Rattle.reading.proofs.read_model.Goals as goal
 
 pub returns-then-r-ne0 : goal.returns-then-r-ne0

@@ -1,6 +1,5 @@
 -- `reading::stop` meets its contract.
 -- The model is that of no frame.
-use borrow.Author.Rules.{rules}
 use Rattle.reading.proofs.stop.Goals as goal
 
 pub returns : goal.returns

@@ -3,7 +3,6 @@
 use mathlib.Core.Path.{sym, ap, ◌∙◌}
 use Rattle.formulas.specs.Contract.{kind_numbered}
 use Rattle.formulas.proofs.Columns.{no_formula}
-use borrow.Author.Rules.{rules}
 use native.Mathlib.Omega.{arith}
 use Rattle.formulas.proofs.codes.kind_of.Goals as goal
 

@@ -1,7 +1,6 @@
 -- `formulas::number_of` meets its contract.
 -- The first column is the definition's.
 use Rattle.formulas.proofs.Columns.{kind_in, term_kind_in}
-use borrow.Author.Rules.{rules}
 use Rattle.formulas.proofs.codes.number_of.Goals as goal
 
 pub returns : goal.returns

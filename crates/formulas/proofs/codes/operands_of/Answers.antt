@@ -2,7 +2,6 @@
 -- The second column is the definition's.
 use Rattle.formulas.proofs.Columns.{operands_in}
 use mathlib.Core.Path.{◌∙◌}
-use borrow.Author.Rules.{rules}
 use Rattle.formulas.proofs.codes.operands_of.Goals as goal
 
 pub returns : goal.returns

@@ -3,7 +3,6 @@
 use mathlib.Core.Path.{sym, ap, ◌∙◌}
 use Rattle.formulas.specs.Contract.{term_kind_numbered}
 use Rattle.formulas.proofs.Columns.{no_term}
-use borrow.Author.Rules.{rules}
 use native.Mathlib.Omega.{arith}
 use Rattle.formulas.proofs.codes.term_kind_of.Goals as goal
 

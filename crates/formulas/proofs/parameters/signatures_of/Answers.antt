@@ -1,10 +1,8 @@
 -- `formulas::signatures_of` meets its contract.
 -- The places below j are written; the last place was written first.
 use mathlib.Core.Path.{◌≡◌}
-use Prim.Native.Nat.{◌-◌}
-use native.Mathlib.Omega.{arith}
 use lib.ListN.{length}
-use Rattle.formulas.proofs.Signatures.{Signing, signing_start, signing_more, signed}
+use Rattle.formulas.proofs.Signatures.{signing_start, signing_more, signed}
 use borrow.Author.Rules.{rules}
 use Rattle.formulas.proofs.parameters.signatures_of.Goals as goal
 

@@ -1,6 +1,6 @@
 -- `reading::keep_body` meets its contract.
 -- What is still to be kept, over what is there, is the whole body over what was there.
-use Prim.Native.Nat.{ℕ, ◌+◌, ◌-◌, ◌*◌, ◌≤◌, ◌<◌}
+use Prim.Native.Nat.{ℕ, ◌+◌, ◌<◌}
 use native.Mathlib.Omega.{arith}
 use native.Mathlib.Numerals.{add-one}
 use mathlib.Core.Path.{◌≡◌, refl, sym, ◌∙◌}
@@ -8,7 +8,6 @@ use mathlib.Core.List.{List, []}
 use lib.ListN.{length, drop, get_or, set, length-set, drop_of_length-le}
 use lib.Seq.{sets, drop-cons}
 use borrow.Author.Tests.{ne_eqb}
-use borrow.Author.Rules.{rules}
 use Rattle.reading.proofs.drafting.keep_body.Goals as goal
 
 step : (b f : List ℕ) (from to : ℕ) → from < length f

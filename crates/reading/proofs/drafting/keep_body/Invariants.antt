@@ -1,14 +1,10 @@
 -- `reading::keep_body` meets its contract.
 -- What is still to be kept, over what is there, is the whole body over what was there.
 use Prim.Native.Nat.{ℕ, ◌+◌, ◌-◌, ◌*◌, ◌≤◌, ◌<◌}
-use native.Mathlib.Omega.{arith}
-use native.Mathlib.Numerals.{add-one}
-use mathlib.Core.Path.{◌≡◌, refl, sym, ◌∙◌}
-use mathlib.Core.List.{List, []}
-use lib.ListN.{length, drop, get_or, set, length-set, drop_of_length-le}
-use lib.Seq.{sets, drop-cons}
-use borrow.Author.Tests.{ne_eqb}
-use borrow.Author.Rules.{rules}
+use mathlib.Core.Path.{◌≡◌}
+use mathlib.Core.List.{List}
+use lib.ListN.{length, drop}
+use lib.Seq.{sets}
 use Rattle.reading.proofs.drafting.keep_body.Given as goal
 
 -- before a turn: the places, the length of the bodies, what is still to be kept

@@ -2,7 +2,6 @@
 -- Three stores.
 use mathlib.Core.Path.{refl}
 use Rattle.reading.specs.Contract.{with_equation}
-use borrow.Author.Rules.{rules}
 use Rattle.reading.proofs.drafting.with_equation.Goals as goal
 
 pub returns : goal.returns

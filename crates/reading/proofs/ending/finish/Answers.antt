@@ -2,8 +2,6 @@
 -- One constructor for each way out.
 use native.Mathlib.Omega.{arith}
 use mathlib.Core.Path.{◌≡◌, sym, ◌∙◌}
-use borrow.Author.Rules.{rules}
-use borrow.Author.Tests.{not-true, not-false}
 use Rattle.reading.specs.Contract.{FirstMisfit, no_start, misfits, wrong_start, passes}
 use Rattle.reading.proofs.ending.finish.Goals as goal
 

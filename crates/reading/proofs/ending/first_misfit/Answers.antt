@@ -1,15 +1,12 @@
 -- `reading::first_misfit` meets its contract.
 -- All before the present one fit.
-use Prim.Native.Nat.{ℕ, ◌+◌, ◌-◌, ◌*◌, ◌≤◌, ◌<◌}
+use Prim.Native.Nat.{◌+◌, ◌-◌, ◌*◌, ◌≤◌}
 use native.Mathlib.Omega.{arith}
 use native.Mathlib.Decide.{ℕ_discrete}
 use mathlib.Core.Path.{◌≡◌, sym, ◌∙◌}
-use mathlib.Core.Bool.{true}
-use borrow.Author.Tests.{not-true, not-false}
 use lib.ListN.{get_or}
 use Rattle.formulas.specs.Bodies.{blank}
 use Rattle.reading.specs.Contract.{fits_at}
-use borrow.Author.Rules.{rules}
 use Rattle.reading.proofs.ending.first_misfit.Goals as goal
 
 pub loop-j-preserved : goal.loop-j-preserved

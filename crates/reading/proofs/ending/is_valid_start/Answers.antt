@@ -2,7 +2,6 @@
 -- The start names an equation or not.
 use native.Mathlib.Omega.{arith}
 use Rattle.reading.proofs.Starts.{start_unnamed, start_named}
-use borrow.Author.Rules.{rules}
 use Rattle.reading.proofs.ending.is_valid_start.Goals as goal
 
 pub returns-then-m-i : goal.returns-then-m-i

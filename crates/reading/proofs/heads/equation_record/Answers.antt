@@ -1,7 +1,6 @@
 -- `reading::equation_record` meets its contract.
 -- Each field is a byte of the frame, or 1 for an absent range.
 use Rattle.reading.specs.Records.{equation_record}
-use borrow.Author.Rules.{rules}
 use Rattle.reading.proofs.heads.equation_record.Goals as goal
 
 pub returns : goal.returns

@@ -1,6 +1,5 @@
 -- `reading::is_valid_head` meets its contract.
 -- All tests hold.
-use borrow.Author.Rules.{rules}
 use Rattle.reading.proofs.heads.is_valid_head.Goals as goal
 
 pub returns : goal.returns

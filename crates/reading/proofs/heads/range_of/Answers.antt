@@ -1,7 +1,6 @@
 -- `reading::range_of` meets its contract.
 -- An absent range is 1.
 use borrow.Author.Tests.{lt-ltb, le-ltb}
-use borrow.Author.Rules.{rules}
 use Rattle.reading.proofs.heads.range_of.Goals as goal
 
 pub returns-then-i-k : goal.returns-then-i-k

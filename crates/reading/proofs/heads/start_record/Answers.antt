@@ -1,7 +1,6 @@
 -- `reading::start_record` meets its contract.
 -- Each field is a byte of the frame.
 use Rattle.reading.specs.Records.{start_record}
-use borrow.Author.Rules.{rules}
 use Rattle.reading.proofs.heads.start_record.Goals as goal
 
 pub returns : goal.returns

@@ -4,12 +4,11 @@ use mathlib.Core.Path.{◌≡◌, refl, sym, ◌∙◌}
 use mathlib.Core.Bool.{Bool, not, cond}
 use native.Mathlib.Omega.{arith}
 use lib.ListN.{length}
-use borrow.Author.Tests.{le-ltb, not-true, not-false}
+use borrow.Author.Tests.{le-ltb}
 use Rattle.formulas.specs.Bodies.{is_body}
 use Rattle.reading.specs.Equations.{ranges_in, body_in}
 use Rattle.reading.specs.Reading.{equation_refusal}
 use Rattle.reading.proofs.Refusals.{equation_judged, head_is, body_is, head_fits}
-use borrow.Author.Rules.{rules}
 use Rattle.reading.proofs.judging.equation_refusal.Goals as goal
 
 -- it ends within the frame

@@ -3,14 +3,17 @@
 use native.Mathlib.Omega.{arith}
 use borrow.Author.Tests.{ne_eqb}
 use Rattle.reading.specs.Reading.{frame_refusal}
-use borrow.Author.Rules.{rules}
 use Rattle.reading.proofs.judging.frame_refusal.Goals as goal
 
 pub returns-in_default : goal.returns-in_default
 unfolding frame_refusal
 returns-in_default c =
-    rw (← c.element-code.ensures, ne_eqb c.element-code.result 1 (λ h. omega arith), ne_eqb c.element-code.result 2 (λ h. omega arith),
-    ne_eqb c.element-code.result 3 (λ h. omega arith))
+    rw (
+      ← c.element-code.ensures,
+      ne_eqb c.element-code.result 1 (λ h. omega arith),
+      ne_eqb c.element-code.result 2 (λ h. omega arith),
+      ne_eqb c.element-code.result 3 (λ h. omega arith),
+    )
 
 pub returns-in-1 : goal.returns-in-1
 returns-in-1 c =
