@@ -1,0 +1,10 @@
+-- `rounds::all_rounds` meets its contract.
+-- Each round keeps what is kept, with fewer looks left; where nothing is dirty the set is the solution.
+use Rattle.solving.proofs.RoundsLaws.{Carried}
+use Rattle.solving.proofs.rounds.all_rounds.Given as goal
+
+abbrev pub invariant-loop-s : goal.invariant-loop-s
+invariant-loop-s l = Carried l.bodies l.equations l.count l.table l.graph l.s
+
+abbrev pub decreases-loop-s : goal.decreases-loop-s
+decreases-loop-s l = l.s.left

@@ -1,0 +1,20 @@
+-- `steps::set_back` meets its contract: each turn the last instance of the equation that is not at w goes back.
+-- The next one is before it, and at the end there is none.
+use Rattle.solving.proofs.StepLaws.{going_none, going_more, going_done, going_less}
+use Rattle.solving.proofs.steps.set_back.Goals as goal
+
+pub loop-j-smaller : goal.loop-j-smaller
+loop-j-smaller c =
+    going_less c.loop-j.invariant c.loop-j-test.true c.put_back-u.ensures _
+    c.last_unlike-j-in-loop-j.ensures
+
+pub loop-j-preserved : goal.loop-j-preserved
+loop-j-preserved c =
+    going_more c.loop-j.invariant c.loop-j-test.true c.put_back-u.ensures _
+    c.last_unlike-j-in-loop-j.ensures c.requires
+
+pub loop-j-init : goal.loop-j-init
+loop-j-init c = going_none _ _ _ _ _ c.last_unlike-j.ensures
+
+pub returns : goal.returns
+returns c = going_done c.loop-j.invariant c.loop-j-test.false
