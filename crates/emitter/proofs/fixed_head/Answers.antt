@@ -3,12 +3,11 @@
 use Prim.Native.Nat.{ℕ, ◌+◌, min}
 use native.Mathlib.Omega.{arith}
 use mathlib.Core.Path.{◌≡◌, refl, sym, ap, ◌∙◌}
-use mathlib.Core.Logic.{⊎_elim}
 use mathlib.Core.Bool.{Bool, true, false, cond}
 use mathlib.Core.List.{List, [], ◌∷◌}
 use lib.Dec.{eqb}
 use lib.ListN.{length, get_or}
-use borrow.Author.Rules.{rules}
+use borrow.Author.Tests.{eq-eqb, ne_eqb}
 use Rattle.spelling.specs.Spelled.{either_code}
 use Rattle.spelling.specs.Stands.{Stands, first, after_one, moved}
 use Rattle.translation.specs.Modal.{Modal, fixed_point}
@@ -16,8 +15,8 @@ use Rattle.inputs.specs.InputFrames.{spelled_modal}
 use Rattle.scans.specs.FixedPoints.{fixed_in, no_fixed}
 use Rattle.scans.proofs.ScannedFormulas.{none_past, one_alone}
 use Rattle.emitter.proofs.SheetHeads.{formula_stands}
-use Rattle.emitter.proofs.fixed_head.Statement.{statement}
-use Rattle.emitter.proofs.fixed_head.Tie as tie
+use Rattle.emitter.proofs.fixed_head.Goals as goal
+use Rattle.emitter.proofs.fixed_head.Goals.{then-greatest, else-greatest}
 
 -- ---- what is found, taken apart
 module _ (sheet : List ℕ) (at : ℕ) (greatest : Bool) (inner : Modal)
@@ -47,19 +46,20 @@ sign_of : (greatest : Bool) (b : ℕ) (test : Bool) → b ≡ either_code greate
 sign_of greatest b test e t =
     ap (λ (x : Bool). cond x 1 0) (sym t ∙ ap (λ (x : ℕ). eqb x 0x33) e) ∙ code_sign greatest
 
-returns : tie.Need-returns
+pub returns : goal.returns
 returns c =
-    let read = c.before.before in
-    let found = read.before.find_fixed in
+    let found = c.find_fixed-at in
     record {
       told = λ process f g l.
-          let fixed = get_or (fixed_in f) read.before.before.before.args.number no_fixed in
+          let fixed = get_or (fixed_in f) c.args.number no_fixed in
           let there = found.ensures.found f g.sheet_is.size (formula_stands g) l in
           record {
             sign =
-                let byte = read.element.ensures ∙ sign_byte _ found.result fixed.greatest fixed.inner there in
-                ⊎_elim (λ h. h.1 ∙ sign_of fixed.greatest _ true byte h.0.taken)
-                (λ h. h.1 ∙ sign_of fixed.greatest _ false byte h.0.left) c.before.if1.branch;
+                let byte = c.element-greatest.ensures ∙ sign_byte _ found.result fixed.greatest fixed.inner there in
+                elim c.if-greatest.branch [
+                  | then-greatest w ↦ w.result-is ∙ sign_of fixed.greatest _ true byte (eq-eqb _ _ w.if-greatest.true)
+                  | else-greatest w ↦ w.result-is ∙ sign_of fixed.greatest _ false byte (ne_eqb _ _ w.if-greatest.false)
+                ];
             named = refl;
             stands =
                 inner_stands _ found.result fixed.greatest fixed.inner there g.sheet_is.size
@@ -67,10 +67,8 @@ returns c =
           };
     }
 
-pub fixed_head_spec : {M : Type 1} → statement M
-fixed_head_spec =
-    tie.close
-    (tie.spec
-    (λ c κs. search rules) (λ c. omega (arith, c.find_fixed.ensures.near)) (λ c κs. search rules)
-    (λ c. omega (arith, c.before.before.find_fixed.ensures.near)) (λ c κs. search rules) (λ c. search rules)
-    (λ c. omega arith) (λ c. omega arith) returns)
+pub overflow_add-at : goal.overflow_add-at
+overflow_add-at c = omega (arith, c.find_fixed-at.ensures.near)
+
+pub overflow_add-at-2 : goal.overflow_add-at-2
+overflow_add-at-2 c = omega (arith, c.find_fixed-at.ensures.near)

@@ -6,7 +6,6 @@ use mathlib.Core.Path.{◌≡◌, refl, sym, ap, ◌∙◌}
 use mathlib.Core.Bool.{true, false}
 use mathlib.Core.List.{List}
 use lib.ListN.{get_or}
-use borrow.Author.Rules.{rules}
 use Rattle.spelling.specs.Spelled.{either_code}
 use Rattle.translation.specs.RuleLaws.{input_formula}
 use Rattle.translation.specs.Translation.{translated}
@@ -17,8 +16,7 @@ use Rattle.emitter.specs.Built.{FixedTold, HeadTold, no_equation}
 use Rattle.emitter.proofs.Heads.{nth_inner, whole_inner, count_begun, count_enclosed}
 use Rattle.emitter.proofs.Heads.{nth_begun, nth_enclosed, first_enclosed}
 use Rattle.emitter.proofs.SheetHeads.{formula_stands, begins_fixed}
-use Rattle.emitter.proofs.head_of.Statement.{statement}
-use Rattle.emitter.proofs.head_of.Tie as tie
+use Rattle.emitter.proofs.head_of.Goals as goal
 
 module _ {sheet : List ℕ} {code : ℕ} (code_is : code ≡ get_or sheet 4353 0) where
   begun : {e : ℕ} {r : Head} → true ≡ is_fixed code → FixedTold sheet e r → HeadTold sheet e r
@@ -69,27 +67,17 @@ module _ {sheet : List ℕ} {code : ℕ} (code_is : code ≡ get_or sheet 4353 0
         };
   }
 
-returns : tie.Need-returns
-returns c =
-    let test = c.before in
-    begun test.before.before.element.ensures (sym test.if1.true ∙ test.before.is_fixed.ensures)
+pub returns-then-is_fixed : goal.returns-then-is_fixed
+returns-then-is_fixed c =
+    begun c.element.ensures (sym c.if-is_fixed.true ∙ c.is_fixed.ensures)
     c.fixed_head.ensures
 
-returns_2 : tie.Need-returns-2
-returns_2 c =
-    let test = c.before in
-    rw c.if2.true
-    (whole test.before.before.element.ensures (sym test.if1.false ∙ test.before.is_fixed.ensures))
+pub returns-then-e-eq0 : goal.returns-then-e-eq0
+returns-then-e-eq0 c =
+    rw c.if-e-eq0.true
+    (whole c.element.ensures (sym c.if-is_fixed.false ∙ c.is_fixed.ensures))
 
-returns_3 : tie.Need-returns-3
-returns_3 c =
-    let test = c.before.before in
-    behind test.before.before.element.ensures _ (sym test.if1.false ∙ test.before.is_fixed.ensures)
-    (omega arith) c.fixed_head2.ensures
-
-pub head_of_spec : {M : Type 1} → statement M
-head_of_spec =
-    tie.close
-    (tie.spec
-    (λ c κs. search rules) (λ c κs. search rules) (λ c κs. search rules) returns returns_2 (λ c. omega arith)
-    (λ c κs. omega arith) returns_3)
+pub returns : goal.returns
+returns c =
+    behind c.element.ensures _ (sym c.if-is_fixed.false ∙ c.is_fixed.ensures)
+    (omega arith) c.fixed_head-2.ensures

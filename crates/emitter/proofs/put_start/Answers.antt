@@ -6,7 +6,6 @@ use mathlib.Core.Path.{◌≡◌, refl, sym, ap, ◌∙◌}
 use mathlib.Core.List.{List, [], ◌∷◌}
 use lib.ListN.{length, get_or, take}
 use lib.Seq.{length-take-le}
-use borrow.Author.Rules.{rules}
 use Rattle.formulas.specs.Contract.{part}
 use Rattle.spelling.specs.Spelled.{start_frame}
 use Rattle.translation.specs.Processes.{Process}
@@ -14,8 +13,7 @@ use Rattle.translation.specs.Modal.{Modal}
 use Rattle.translation.specs.Translation.{translated_start}
 use Rattle.emitter.specs.Built.{Given}
 use Rattle.emitter.proofs.SheetHeads.{parameters, few_parameters, initial_read}
-use Rattle.emitter.proofs.put_start.Statement.{statement}
-use Rattle.emitter.proofs.put_start.Tie as tie
+use Rattle.emitter.proofs.put_start.Goals as goal
 
 -- four values in a row, and the first k of them
 first_values : (sheet : List ℕ) (p k : ℕ) → k ≤ 4
@@ -48,35 +46,25 @@ start_bytes {process} {f} {sheet} g k e =
     ap (λ (m : ℕ). part sheet (2 + m) m) e ∙ initial_read g in
     rw (a, b, d) (after_two k _ ∙ ap (λ (l : List ℕ). 2 ∷ 0 ∷ l) values)
 
-count_is : tie.Need-slice-aggregate-put-line
-count_is c =
-    let k = c.before.before.before.before.before.before.smaller in
+pub slice_bounds-put_line-end : goal.slice_bounds-put_line-end
+slice_bounds-put_line-end c =
+    let k = c.smaller-k in
     sym (length-take-le _ _ (omega (arith, k.ensures)))
 
-returns : tie.Need-returns
+pub returns : goal.returns
 returns c =
-    let d = c.before.before.before.before.before in
-    let k = d.before.before.before.before.smaller in
-    let wide = d.before.before.before.before.before.wide in
-    let count = d.before.before.before.before.before.before.element in
+    let k = c.smaller-k in
+    let wide = c.wide in
+    let count = c.element in
     record {
       told = λ process f g.
           rw (
             ← start_bytes g k.result
                 (omega (arith, k.ensures, wide.ensures.0, count.ensures, parameters g, few_parameters g)),
-            ← d.before.before.before.element2.ensures,
-            ← d.before.before.element3.ensures,
-            ← d.before.element4.ensures,
-            ← d.element5.ensures,
+            ← c.element-a.ensures,
+            ← c.element-b.ensures,
+            ← c.element-c.ensures,
+            ← c.element-d.ensures,
           )
-          c.before.before.put_line.ensures;
+          c.put_line.ensures;
     }
-
-pub put_start_spec : {M : Type 1} → statement M
-put_start_spec =
-    tie.close
-    (tie.spec
-    (λ c κs. search rules) (λ c κs. search rules) (λ c κs. search rules) (λ c. search rules) (λ c κs. search rules)
-    (λ c. search rules) (λ c κs. search rules) (λ c. search rules) (λ c κs. search rules) (λ c. search rules)
-    (λ c κs. search rules) (λ c. search rules) (λ c. omega arith) count_is (λ c κs. search rules) (λ c. search rules)
-    returns)

@@ -1,6 +1,6 @@
 -- `emitter::put_equations` meets its contract.
 -- Before turn e the lines of the first e equations are put; where one does not fit, not all of them fit.
-use Prim.Native.Nat.{ℕ, ◌+◌, ◌-◌, ◌≤◌, ◌<◌}
+use Prim.Native.Nat.{ℕ, ◌+◌, ◌≤◌, ◌<◌}
 use native.Mathlib.Omega.{arith}
 use native.Mathlib.Numerals.{add-one}
 use mathlib.Core.Path.{◌≡◌, refl, sym, ap, ◌∙◌}
@@ -12,28 +12,12 @@ use borrow.Author.Rules.{rules}
 use Rattle.meaning.specs.Logic.{cases}
 use Rattle.meaning.specs.Models.{Model}
 use Rattle.frames.specs.PutLine.{LinePut}
-use Rattle.translation.specs.Processes.{Process}
-use Rattle.translation.specs.Modal.{Modal}
 use Rattle.translation.specs.Translation.{translated}
-use Rattle.scans.specs.Summands.{Placed}
 use Rattle.emitter.specs.Limits.{equation_fits, each_fits}
-use Rattle.emitter.specs.Built.{Given, EquationPut, EquationsPut, no_equation, lines_for}
-use Rattle.emitter.proofs.LinesLaws.{Lines, frame_small, lines_none, lines_turn, one_misfit}
-use Rattle.emitter.proofs.put_equations.Statement.{statement}
-use Rattle.emitter.proofs.put_equations.Tie as tie
-
-record Putting (sheet places : List ℕ) (count : ℕ) (text : List ℕ) (at e : ℕ) : Type 0 where
-  few : count ≤ 8
-  near : e ≤ count
-  long : length text ≡ 4117
-  lines : (process : Process) (f : Modal) → Given process f sheet → Placed process places
-      → length (translated process f) ≡ count → Lines (translated process f) e at text
-
-abbrev invariant-loop : tie.invariant-loop
-invariant-loop sheet places count text₀ at₀ e₀ text at e = Putting sheet places count text at e
-
-abbrev decreases-loop : tie.decreases-loop
-decreases-loop sheet places count text₀ at₀ e₀ text at e = count - e
+use Rattle.emitter.specs.Built.{EquationPut, EquationsPut, no_equation, lines_for}
+use Rattle.emitter.proofs.LinesLaws.{frame_small, lines_none, lines_turn, one_misfit}
+use Rattle.emitter.proofs.put_equations.Invariants.{Putting}
+use Rattle.emitter.proofs.put_equations.Goals as goal
 
 -- ---- the equation of a turn fits, or not
 module _ {sheet places : List ℕ} {count : ℕ} {text : List ℕ} {at e : ℕ} (p : Putting sheet places count text at e)
@@ -90,53 +74,36 @@ none_put few zeros = record {
   lines = λ process f g placed n. rw zeros (lines_none (translated process f));
 }
 
-loop_holds : tie.Need-loop-init invariant-loop decreases-loop
-loop_holds c = let pre = c.before.before.before.requires in none_put pre.0 pre.1
-
 -- the text is as long as it was
 lent_long : {sheet places : List ℕ} {count : ℕ} {text : List ℕ} {at e : ℕ} {text₀ : List ℕ}
     → Putting sheet places count text at e → text₀ ≡ replicate 4117 0 → length text ≡ length text₀
 lent_long p zeros = p.long ∙ sym (length-replicate {A = ℕ} 4117 0) ∙ ap length (sym zeros)
 
-same_length : tie.Need-same-length invariant-loop decreases-loop
-same_length c =
-    let turn = c.before.before.before.before in
-    lent_long turn.before.loop.invariant turn.before.before.before.before.before.requires.1
+pub loop-e-init : goal.loop-e-init
+loop-e-init c = let pre = c.requires in none_put pre.0 pre.1
 
-same_length_after : tie.Need-same-length-2 invariant-loop decreases-loop
-same_length_after c = lent_long c.before.loop.invariant c.before.before.before.before.before.requires.1
+pub shape_of-text-then-size-gt256 : goal.shape_of-text-then-size-gt256
+shape_of-text-then-size-gt256 c = lent_long c.loop-e.invariant c.requires.1
 
-put_equation_requires : tie.Need-put-equation-requires invariant-loop decreases-loop
-put_equation_requires c κs = (omega arith, refl)
+pub shape_of-text : goal.shape_of-text
+shape_of-text c = lent_long c.loop-e.invariant c.requires.1
 
-too_large : tie.Need-returns invariant-loop decreases-loop
-too_large c =
-    let called = c.before.before in
-    let turn = called.before.before in
-    not_all turn.before.loop.invariant turn.loop-test.true called.put_equation.ensures c.if1.true
+pub put_equation-size-requires : goal.put_equation-size-requires
+put_equation-size-requires c = (omega arith, refl)
 
-size_is : tie.Need-slice-aggregate-put-line invariant-loop decreases-loop
-size_is c =
-    let called = c.before.before.before.before in
-    sym (length-take-le _ _ (omega (arith, called.put_equation.ensures.size)))
+pub returns-then-size-gt256 : goal.returns-then-size-gt256
+returns-then-size-gt256 c =
+    not_all c.loop-e.invariant c.loop-e-test.true c.put_equation-size.ensures c.if-size-gt256.true
 
-loop_again : tie.Need-loop-preserved invariant-loop decreases-loop
-loop_again c =
-    let put = c.before.before in
-    let called = put.before.before.before.before.before in
-    let turn = called.before.before in
-    let kept : length put.put_line.new.0 ≡ length turn.before.loop.text = search rules in
-    one_more turn.before.loop.invariant turn.loop-test.true called.put_equation.ensures
-    (omega arith) (kept ∙ turn.before.loop.invariant.long) put.put_line.ensures
+pub slice_bounds-put_line-end : goal.slice_bounds-put_line-end
+slice_bounds-put_line-end c =
+    sym (length-take-le _ _ (omega (arith, c.put_equation-size.ensures.size)))
 
-returns : tie.Need-returns-2 invariant-loop decreases-loop
-returns c = all_put c.before.loop.invariant c.loop-test.false
+pub loop-e-preserved : goal.loop-e-preserved
+loop-e-preserved c =
+    let kept : length c.put_line-at.new.out ≡ length c.loop-e.text = search rules in
+    one_more c.loop-e.invariant c.loop-e-test.true c.put_equation-size.ensures
+    (omega arith) (kept ∙ c.loop-e.invariant.long) c.put_line-at.ensures
 
-pub put_equations_spec : {M : Type 1} → statement M
-put_equations_spec =
-    tie.close
-    (tie.spec
-    invariant-loop
-    decreases-loop
-    loop_holds (λ c. search rules) put_equation_requires same_length too_large (λ c. omega arith) size_is
-    (λ c κs. search rules) (λ c. omega arith) (λ c. omega arith) loop_again same_length_after returns)
+pub returns : goal.returns
+returns c = all_put c.loop-e.invariant c.loop-e-test.false

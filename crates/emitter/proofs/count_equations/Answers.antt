@@ -6,14 +6,12 @@ use mathlib.Core.Path.{◌≡◌, sym, ◌∙◌}
 use mathlib.Core.Bool.{true, false}
 use mathlib.Core.List.{List}
 use lib.ListN.{get_or}
-use borrow.Author.Rules.{rules}
 use Rattle.scans.specs.declared.Skipped.{Skipped}
 use Rattle.scans.specs.Formulas.{is_fixed, Skips}
 use Rattle.emitter.specs.Built.{CountTold}
 use Rattle.emitter.proofs.Heads.{count_begun, count_enclosed}
 use Rattle.emitter.proofs.SheetHeads.{formula_stands, begins_fixed}
-use Rattle.emitter.proofs.count_equations.Statement.{statement}
-use Rattle.emitter.proofs.count_equations.Tie as tie
+use Rattle.emitter.proofs.count_equations.Goals as goal
 
 module _ {sheet : List ℕ} {r : Skipped} (skipped : Skips sheet 1 r) {code : ℕ} (code_is : code ≡ get_or sheet 4353 0) where
   begun : true ≡ is_fixed code → CountTold sheet r.count
@@ -35,22 +33,15 @@ module _ {sheet : List ℕ} {r : Skipped} (skipped : Skips sheet 1 r) {code : �
         );
   }
 
-added_fits : tie.Need-overflow-add-result
-added_fits c = omega (arith, c.before.before.before.before.skip.ensures.few)
+pub overflow_add-result : goal.overflow_add-result
+overflow_add-result c = omega (arith, c.skip-s.ensures.few)
 
-returns : tie.Need-returns
-returns c =
-    begun c.before.before.before.skip.ensures c.before.before.element.ensures
-    (sym c.if1.true ∙ c.before.is_fixed.ensures)
+pub returns-then-is_fixed : goal.returns-then-is_fixed
+returns-then-is_fixed c =
+    begun c.skip-s.ensures c.element.ensures
+    (sym c.if-is_fixed.true ∙ c.is_fixed.ensures)
 
-returns_2 : tie.Need-returns-2
-returns_2 c =
-    let test = c.before in
-    enclosed test.before.before.before.skip.ensures test.before.before.element.ensures
-    (sym test.if1.false ∙ test.before.is_fixed.ensures)
-
-pub count_equations_spec : {M : Type 1} → statement M
-count_equations_spec =
-    tie.close
-    (tie.spec
-    (λ c κs. search rules) (λ c κs. search rules) (λ c κs. search rules) added_fits returns returns_2)
+pub returns-else-is_fixed : goal.returns-else-is_fixed
+returns-else-is_fixed c =
+    enclosed c.skip-s.ensures c.element.ensures
+    (sym c.if-is_fixed.false ∙ c.is_fixed.ensures)

@@ -6,7 +6,6 @@ use mathlib.Core.Path.{◌≡◌, refl, sym, subst, ◌∙◌}
 use mathlib.Core.Bool.{true, false}
 use mathlib.Core.List.{List, ◌++◌}
 use lib.ListN.{length, take}
-use borrow.Author.Rules.{rules}
 use Rattle.meaning.specs.Logic.{Is}
 use Rattle.meaning.specs.Formulas.{Formula}
 use Rattle.meaning.specs.Models.{ModelEquation}
@@ -21,8 +20,7 @@ use Rattle.emitter.specs.declared.Head.{Head}
 use Rattle.emitter.specs.Limits.{equation_fits}
 use Rattle.emitter.specs.Built.{Given, Headed, HeadTold, HeadPut, EquationPut, head_bytes}
 use Rattle.emitter.proofs.EquationLaws.{frame_size, frame_bytes, frame_over}
-use Rattle.emitter.proofs.put_equation.Statement.{statement}
-use Rattle.emitter.proofs.put_equation.Tie as tie
+use Rattle.emitter.proofs.put_equation.Goals as goal
 
 -- what is promised of an equation, whichever it is
 abbrev PutAs : ModelEquation → List ℕ → ℕ → Type 0
@@ -84,15 +82,7 @@ module _ {sheet places : List ℕ} {e : ℕ} {head : Head} {frame between left :
         subst (λ (x : ModelEquation). PutAs x left r) (sym h.equation) (put_as g placed h);
   }
 
-returns : tie.Need-returns
+pub returns : goal.returns
 returns c =
-    let put = c.before.before in
-    let begun = put.before.before.before.before in
-    frame_put begun.before.before.before.before.before.before.requires.1 begun.put_head.ensures
-    put.put_right_side.ensures begun.before.before.head_of.ensures
-
-pub put_equation_spec : {M : Type 1} → statement M
-put_equation_spec =
-    tie.close
-    (tie.spec
-    (λ c κs. omega arith) (λ c κs. search rules) (λ c κs. search rules) (λ c. search rules) returns)
+    frame_put c.requires.1 c.put_head-count.ensures
+    c.put_right_side.ensures c.head_of-head.ensures
