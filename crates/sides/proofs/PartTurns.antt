@@ -8,7 +8,7 @@ use mathlib.Core.List.{List, [], ◌∷◌, ◌++◌, append-nil}
 use lib.Dec.{eqb, leb, ltb}
 use lib.ListN.{length, get_or, length-append}
 use borrow.Author.Tests.{leb-true, leb-false, ltb-true, ltb-false, eqb-true, eqb-false, lt-ltb, le-leb}
-use Rattle.meaning.specs.Logic.{Is, ◌and◌, and_l, cases}
+use Rattle.meaning.specs.Logic.{Is, and_l, cases}
 use Rattle.meaning.specs.Formulas.{Term, number}
 use Rattle.spelling.specs.Spelled.{spelled_term}
 use Rattle.spelling.specs.Stands.{Stands, moved}

@@ -6,7 +6,7 @@ use mathlib.Core.Path.{◌≡◌, refl, sym, ap, ◌∙◌, subst}
 use mathlib.Core.List.{List, [], ◌∷◌, ◌++◌}
 use lib.ListN.{length, get_or, length-append, length-map, get_or-map, get_or-append}
 use borrow.Author.Tests.{ne_eqb}
-use Rattle.meaning.specs.Logic.{Is, never, ◌and◌, and_l, and_r}
+use Rattle.meaning.specs.Logic.{Is, never, and_l, and_r}
 use Rattle.meaning.specs.Formulas.{Term, number, variable}
 use Rattle.meaning.specs.Ranges.{sound_term, sound_terms, arguments_fit}
 use Rattle.spelling.specs.Stands.{first, after_one}

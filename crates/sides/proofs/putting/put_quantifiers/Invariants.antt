@@ -1,0 +1,11 @@
+-- `sides::putting::put_quantifiers` meets its contract.
+-- Before turn i the quantifiers from number i on are still to be put.
+use Prim.Native.Nat.{◌-◌}
+use Rattle.sides.proofs.Quantifying.{Quantifying}
+use Rattle.sides.proofs.putting.put_quantifiers.Given as goal
+
+abbrev pub invariant-loop-i : goal.invariant-loop-i
+invariant-loop-i l = Quantifying l.sheet l.first l.all l.initial.out l.count l.own l.out l.c l.i
+
+abbrev pub decreases-loop-i : goal.decreases-loop-i
+decreases-loop-i l = l.own - l.i
