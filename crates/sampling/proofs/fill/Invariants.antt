@@ -1,10 +1,13 @@
--- `sampling::fill` is safe and ends.
+-- `sampling::fill` is safe and ends, and what it has put into the buffer are the reader's next bytes.
 -- What is done lies in the buffer, which keeps its length; a read that ends nothing makes it more.
-use Rattle.std.proofs.Common.{length, ◌-◌, ◌≡◌, ◌≤◌}
+use Rattle.std.proofs.Common.{length, take, ◌-◌, ◌≡◌, ◌≤◌}
+use Rattle.std.specs.Io.KnownBytes.{Consumes}
 use Rattle.sampling.proofs.fill.Given as goal
 
 abbrev pub invariant-loop-done : goal.invariant-loop-done
-invariant-loop-done g l = (l.done ≤ length l.buffer) × (length l.buffer ≡ length l.initial.buffer)
+invariant-loop-done g l =
+    (l.done ≤ length l.buffer) × (length l.buffer ≡ length l.initial.buffer) ×
+    Consumes (g.R.Read.remaining l.initial.reader) (g.R.Read.remaining l.reader) (take l.done l.buffer)
 
 abbrev pub decreases-loop-done : goal.decreases-loop-done
 decreases-loop-done g l = length l.initial.buffer - l.done
