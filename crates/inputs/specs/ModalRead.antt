@@ -1,7 +1,7 @@
 -- THEOREM: what is read as a formula of an `08` stands there as it is spelled, and what is spelled is read.
 -- One induction over the reader, for any property of a place, a formula and its end.
 use Prim.Native.Nat.{ℕ, zero, suc, ◌+◌, ◌≤◌, ◌<◌}
-use Rattle.std.proofs.Common.{arith, sym, subst, ◌∙◌, length-append, eqb-true, ltb-true, ltb-false}
+use Rattle.std.proofs.Common.{arith, sym, ◌∙◌, length-append, eqb-true, ltb-true, ltb-false}
 use Rattle.std.specs.Prelude.{◌≡◌, Bool, List, [], ◌∷◌, ◌++◌, eqb, ltb, length, get_or}
 use Rattle.std.proofs.Math.Path.{refl}
 use Rattle.std.proofs.Math.Bool.{true, false}
@@ -10,8 +10,7 @@ use Rattle.meaning.specs.Logic.{cases}
 use Rattle.formulas.specs.Decode.{Parsed, none, some, then}
 use Rattle.formulas.proofs.Decoded.{Every, unread, each, every_then, every_last}
 use Rattle.spelling.specs.Spelled.{either_code}
-use Rattle.spelling.specs.Stands.{Stands, first, after_one, left_part, right_part, moved}
-use Rattle.spelling.specs.Stands.{stands_nothing, before_one, both_parts}
+use Rattle.spelling.specs.Stands.{Stands, first, after_one, left_part, right_part}
 use Rattle.spelling.specs.SpelledThere.{There, there_nothing, there_byte, there_both, read_there}
 use Rattle.translation.specs.Modal.{Actions, any_action, only, other_than}
 use Rattle.translation.specs.Modal.{Modal, truth, combined, after, fixed_point, of_fixed_point}

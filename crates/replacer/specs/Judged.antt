@@ -1,7 +1,7 @@
 -- THEOREM: what 01's order gives for the resulting text, told by the new right side alone.
 -- Everything else in the text was passed and is as it was, so only the equation's line can be refused, by 3,
 -- 6 or 7, or the whole text by 1.
-use Rattle.std.specs.Prelude.{ℕ, ◌+◌, ◌-◌, ◌≤◌, ◌<◌, ◌≡◌, Bool, true, false, List, [], ◌∷◌, ◌++◌, leb}
+use Rattle.std.specs.Prelude.{ℕ, ◌+◌, ◌≤◌, ◌<◌, ◌≡◌, Bool, true, false, List, [], ◌∷◌, ◌++◌, leb}
 use Rattle.std.proofs.Common.{arith, sym, ap, subst, ◌∙◌, leb-true, leb-false, le-leb}
 use Rattle.std.proofs.Math.Path.{refl}
 use Rattle.std.proofs.Math.Bool.{cond}

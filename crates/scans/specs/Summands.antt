@@ -1,6 +1,6 @@
 -- What is promised of the summands on a sheet: where their actions and next-state terms stand, which match.
 -- Places are counted from the first byte of the summand's frame.
-use Rattle.std.specs.Prelude.{ℕ, ◌+◌, ◌*◌, ◌≤◌, ◌<◌, ◌≡◌, Bool, true, false, List, [], length, get_or, take}
+use Rattle.std.specs.Prelude.{ℕ, ◌+◌, ◌*◌, ◌≤◌, ◌<◌, ◌≡◌, Bool, true, false, List, length, get_or, take}
 use Rattle.meaning.specs.Logic.{Is}
 use Rattle.spelling.specs.Spelled.{spelled, spelled_terms}
 use Rattle.spelling.specs.Stands.{Stands}

@@ -1,12 +1,9 @@
 -- `processes::check_lines` meets its contract.
 -- Before each turn number and line of the text are those of what is left of it.
 use Prim.Native.Nat.{ℕ, ◌+◌, ◌-◌, ◌≤◌}
-use native.Mathlib.Omega.{arith}
 use mathlib.Core.List.{List}
 use lib.ListN.{length}
-use Rattle.reading.proofs.Turns.{end_near}
-use Rattle.processes.proofs.Turns.{Same, first_same, one_refused, next_same, none_refused}
-use borrow.Author.Rules.{rules}
+use Rattle.processes.proofs.Turns.{Same}
 use Rattle.processes.proofs.check_lines.Given as goal
 
 pub record Checking (t : List ℕ) (at line : ℕ) : Type 0 where

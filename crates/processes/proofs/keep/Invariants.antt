@@ -1,12 +1,10 @@
 -- `processes::keep` meets its contract.
 -- What is still to be kept, over what is there, is the whole frame over what was there.
-use Prim.Native.Nat.{ℕ, ◌+◌, ◌-◌, ◌*◌, ◌≤◌, ◌<◌}
-use native.Mathlib.Omega.{arith}
-use native.Mathlib.Numerals.{add-one}
-use mathlib.Core.Path.{◌≡◌, refl, sym, ◌∙◌}
+use Prim.Native.Nat.{ℕ, ◌+◌, ◌-◌, ◌*◌, ◌≤◌}
+use mathlib.Core.Path.{◌≡◌}
 use mathlib.Core.List.{List}
-use lib.ListN.{length, drop, get_or, set, length-set, drop_of_length-le}
-use lib.Seq.{sets, drop-cons}
+use lib.ListN.{length, drop}
+use lib.Seq.{sets}
 use Rattle.processes.proofs.keep.Given as goal
 
 -- before a turn: the place, the length of the sheet, what is still to be kept

@@ -9,7 +9,6 @@ use lib.ListN.{length, take}
 use lib.Dec.{leb}
 use lib.Seq.{length-take-le}
 use borrow.Author.Tests.{ne_eqb}
-use borrow.Author.Rules.{rules}
 use Rattle.processes.specs.Contract.{is_next}
 use Rattle.processes.proofs.keeps_rules.Goals as goal
 

@@ -1,6 +1,5 @@
 -- `processes::read_input` meets its contract.
 -- The lines give the refusal or the sheet; after a refusal the sheet is zeros.
-use borrow.Author.Rules.{rules}
 use Rattle.processes.proofs.Outcomes.{input_refused, input_read}
 use Rattle.processes.proofs.read_input.Goals as goal
 

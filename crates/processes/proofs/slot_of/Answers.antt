@@ -1,7 +1,6 @@
 -- `processes::slot_of` meets its contract.
 -- The formula has the last place; the others stand in their order, and none of them later than the sixteenth.
 use borrow.Author.Tests.{eq-eqb, ne_eqb}
-use borrow.Author.Rules.{rules}
 use Rattle.processes.proofs.slot_of.Goals as goal
 
 pub returns-then-code-eq8 : goal.returns-then-code-eq8

@@ -4,7 +4,6 @@ use Prim.Native.Nat.{ℕ, ◌+◌, ◌-◌, ◌*◌, ◌<◌, min}
 use native.Mathlib.Omega.{arith}
 use mathlib.Core.Path.{◌≡◌, ap}
 use lib.ListN.{length}
-use borrow.Author.Rules.{rules}
 use Rattle.replacer.specs.Result.{Small}
 use Rattle.replacer.proofs.Known as known
 use Rattle.replacer.proofs.Known.{ReadAs, Named}

@@ -4,8 +4,6 @@ use Prim.Native.Nat.{◌+◌, ◌≤◌}
 use native.Mathlib.Omega.{arith}
 use mathlib.Core.Path.{sym, ◌∙◌}
 use lib.ListN.{length}
-use borrow.Author.Rules.{rules}
-use borrow.Author.Tests.{not-true, not-false}
 use Rattle.replacer.proofs.SideNumbers.{text_too_long, frame_too_long, no_formula, misfitting, nothing_wrong}
 use Rattle.replacer.proofs.side_number.Goals as goal
 

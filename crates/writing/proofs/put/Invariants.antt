@@ -1,16 +1,10 @@
 -- `writing::put` meets its contract.
 -- What is still to be put from a place on, over what is there, is all the bytes over what was there.
-use Prim.Native.Nat.{ℕ, suc, ◌+◌, ◌-◌, ◌≤◌, ◌<◌}
-use native.Mathlib.Omega.{arith}
-use native.Mathlib.Nat.{add-zero}
-use native.Mathlib.Numerals.{add-one}
-use mathlib.Core.Path.{◌≡◌, refl, sym, ◌∙◌}
+use Prim.Native.Nat.{ℕ, ◌+◌, ◌-◌, ◌≤◌}
+use mathlib.Core.Path.{◌≡◌}
 use mathlib.Core.List.{List}
-use lib.ListN.{length, drop, get_or, set, length-set, drop_of_length-le}
-use lib.Seq.{sets, drop-cons}
-use borrow.Author.Rules.{rules}
-use borrow.Author.Tests.{leb-true, not-true, not-false}
-use Rattle.writing.proofs.Laws.{no_room, with_room}
+use lib.ListN.{length, drop}
+use lib.Seq.{sets}
 use Rattle.writing.proofs.put.Given as goal
 
 -- before turn i

@@ -1,6 +1,5 @@
 -- `writing::show` meets its contract.
 -- The test is that of the definition, and the line is put by `put_line`.
-use borrow.Author.Rules.{rules}
 use Rattle.writing.proofs.Shown.{shows_text, shows_refusal}
 use Rattle.writing.proofs.show.Goals as goal
 

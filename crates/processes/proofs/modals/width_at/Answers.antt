@@ -2,7 +2,6 @@
 -- Each arm is that code's width; any other code fails the nine tests.
 use native.Mathlib.Omega.{arith}
 use mathlib.Core.Path.{refl}
-use borrow.Author.Rules.{rules}
 use borrow.Author.Tests.{ne_eqb}
 use Rattle.processes.specs.Ends.{modal_width}
 use Rattle.processes.proofs.modals.width_at.Goals as goal

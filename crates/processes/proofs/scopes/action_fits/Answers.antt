@@ -1,7 +1,6 @@
 -- `processes::action_fits` meets its contract.
 -- The tests are those of the definition, in its order.
 use mathlib.Core.Path.{refl, ◌∙◌}
-use borrow.Author.Rules.{rules}
 use Rattle.processes.specs.Ends.{action_stands}
 use Rattle.processes.proofs.scopes.action_fits.Goals as goal
 

@@ -1,19 +1,16 @@
 -- `processes::is_well_formed` meets its contract.
 -- Each turn takes one code: a fixed point is kept with its end, a variable or an action is tested.
-use Prim.Native.Nat.{ℕ, ◌+◌, ◌-◌}
+use Prim.Native.Nat.{ℕ}
 use native.Mathlib.Omega.{arith}
 use mathlib.Core.Path.{◌≡◌, sym, ap, ◌∙◌}
-use mathlib.Core.Bool.{Bool, true, false, ◌&&◌}
+use mathlib.Core.Bool.{◌&&◌}
 use mathlib.Core.List.{List}
-use mathlib.Core.Logic.{⊎_elim}
 use lib.ListN.{length, get_or}
-use borrow.Author.Rules.{rules}
-use borrow.Author.Tests.{not-true, not-false}
-use Rattle.processes.specs.Ends.{action_stands, variable_stands, WellFormedTold}
+use Rattle.processes.specs.Ends.{action_stands, variable_stands}
 use Rattle.processes.proofs.OwnBytes.{opens}
 use Rattle.processes.proofs.Rows.{width, width_most}
 use Rattle.processes.proofs.Turning.{Opened, opened, not_opened}
-use Rattle.processes.proofs.Walking.{Walking, opened_size, walking_start, walking_done, walking_none}
+use Rattle.processes.proofs.Walking.{opened_size, walking_start, walking_done, walking_none}
 use Rattle.processes.proofs.Walking.{walking_stops, walking_more}
 use Rattle.processes.proofs.scopes.is_well_formed.Goals as goal
 use Rattle.processes.proofs.scopes.is_well_formed.Goals.{then-and, else-and}
@@ -27,14 +24,14 @@ returns-then-not-and c =
     let frame : List ℕ = c.args.frame.now in
     let at : ℕ = c.loop-at.at in
     let opening : c.and.result ≡ opens (get_or frame at 0) =
-        c.and.ensures ∙ ap opens c.element-code.ensures in
+    c.and.ensures ∙ ap opens c.element-code.ensures in
     let kept : Opened frame at c.loop-at.ends c.loop-at.count c.if-and.ends c.if-and.count =
-        elim c.if-and.branch [
-          | then-and w ↦ opened w.modal_end.result (sym opening ∙ w.if-and.true) w.modal_end.ensures w.ends-is w.count-is
-          | else-and w ↦ not_opened (sym opening ∙ w.if-and.false) w.ends-is w.count-is
-        ] in
+    elim c.if-and.branch [
+      | then-and w ↦ opened w.modal_end.result (sym opening ∙ w.if-and.true) w.modal_end.ensures w.ends-is w.count-is
+      | else-and w ↦ not_opened (sym opening ∙ w.if-and.false) w.ends-is w.count-is
+    ] in
     let tests : c.and-in-loop-at.result ≡ variable_stands frame at c.if-and.ends c.if-and.count && action_stands frame at =
-        rw (← c.variable_fits-fits.ensures, ← c.action_fits.ensures) c.and-in-loop-at.ensures in
+    rw (← c.variable_fits-fits.ensures, ← c.action_fits.ensures) c.and-in-loop-at.ensures in
     walking_stops c.loop-at.invariant (omega arith) c.loop-at-test.true kept tests c.if-not-and.true
 
 pub loop-at-preserved : goal.loop-at-preserved
@@ -43,14 +40,14 @@ loop-at-preserved c =
     let at : ℕ = c.loop-at.at in
     let coded : width frame at ≡ 0 → ⊥ = λ e. c.if-width-eq0.false (c.width_at-width.ensures ∙ e) in
     let opening : c.and.result ≡ opens (get_or frame at 0) =
-        c.and.ensures ∙ ap opens c.element-code.ensures in
+    c.and.ensures ∙ ap opens c.element-code.ensures in
     let kept : Opened frame at c.loop-at.ends c.loop-at.count c.if-and.ends c.if-and.count =
-        elim c.if-and.branch [
-          | then-and w ↦ opened w.modal_end.result (sym opening ∙ w.if-and.true) w.modal_end.ensures w.ends-is w.count-is
-          | else-and w ↦ not_opened (sym opening ∙ w.if-and.false) w.ends-is w.count-is
-        ] in
+    elim c.if-and.branch [
+      | then-and w ↦ opened w.modal_end.result (sym opening ∙ w.if-and.true) w.modal_end.ensures w.ends-is w.count-is
+      | else-and w ↦ not_opened (sym opening ∙ w.if-and.false) w.ends-is w.count-is
+    ] in
     let tests : c.and-in-loop-at.result ≡ variable_stands frame at c.if-and.ends c.if-and.count && action_stands frame at =
-        rw (← c.variable_fits-fits.ensures, ← c.action_fits.ensures) c.and-in-loop-at.ensures in
+    rw (← c.variable_fits-fits.ensures, ← c.action_fits.ensures) c.and-in-loop-at.ensures in
     rw c.width_at-width.ensures
     (walking_more c.loop-at.invariant (omega arith) c.loop-at-test.true kept tests c.if-not-and.false coded)
 
@@ -74,12 +71,12 @@ variable_fits-fits-requires c =
     let frame : List ℕ = c.args.frame.now in
     let at : ℕ = c.loop-at.at in
     let opening : c.and.result ≡ opens (get_or frame at 0) =
-        c.and.ensures ∙ ap opens c.element-code.ensures in
+    c.and.ensures ∙ ap opens c.element-code.ensures in
     let kept : Opened frame at c.loop-at.ends c.loop-at.count c.if-and.ends c.if-and.count =
-        elim c.if-and.branch [
-          | then-and w ↦ opened w.modal_end.result (sym opening ∙ w.if-and.true) w.modal_end.ensures w.ends-is w.count-is
-          | else-and w ↦ not_opened (sym opening ∙ w.if-and.false) w.ends-is w.count-is
-        ] in
+    elim c.if-and.branch [
+      | then-and w ↦ opened w.modal_end.result (sym opening ∙ w.if-and.true) w.modal_end.ensures w.ends-is w.count-is
+      | else-and w ↦ not_opened (sym opening ∙ w.if-and.false) w.ends-is w.count-is
+    ] in
     let kept_size : length c.if-and.ends ≡ 256 = opened_size kept ∙ c.loop-at.invariant.size in
     (omega arith, kept_size)
 

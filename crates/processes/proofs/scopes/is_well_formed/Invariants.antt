@@ -1,20 +1,8 @@
 -- `processes::is_well_formed` meets its contract.
 -- Each turn takes one code: a fixed point is kept with its end, a variable or an action is tested.
-use Prim.Native.Nat.{ℕ, ◌+◌, ◌-◌}
-use native.Mathlib.Omega.{arith}
-use mathlib.Core.Path.{◌≡◌, sym, ap, ◌∙◌}
-use mathlib.Core.Bool.{Bool, true, false, ◌&&◌}
-use mathlib.Core.List.{List}
-use mathlib.Core.Logic.{⊎_elim}
-use lib.ListN.{length, get_or}
-use borrow.Author.Rules.{rules}
-use borrow.Author.Tests.{not-true, not-false}
-use Rattle.processes.specs.Ends.{action_stands, variable_stands, WellFormedTold}
-use Rattle.processes.proofs.OwnBytes.{opens}
-use Rattle.processes.proofs.Rows.{width, width_most}
-use Rattle.processes.proofs.Turning.{Opened, opened, not_opened}
-use Rattle.processes.proofs.Walking.{Walking, opened_size, walking_start, walking_done, walking_none}
-use Rattle.processes.proofs.Walking.{walking_stops, walking_more}
+use Prim.Native.Nat.{◌-◌}
+use lib.ListN.{length}
+use Rattle.processes.proofs.Walking.{Walking}
 use Rattle.processes.proofs.scopes.is_well_formed.Given as goal
 
 abbrev pub invariant-loop-at : goal.invariant-loop-at

@@ -1,7 +1,6 @@
 -- `processes::variable_fits` meets its contract.
 -- The tests are those of the definition; a byte is a place of the table.
 use mathlib.Core.Path.{refl, ◌∙◌}
-use borrow.Author.Rules.{rules}
 use borrow.Author.Tests.{eq-eqb, ne_eqb}
 use Rattle.processes.specs.Ends.{variable_stands}
 use Rattle.processes.proofs.scopes.variable_fits.Goals as goal

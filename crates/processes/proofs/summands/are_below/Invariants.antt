@@ -1,15 +1,10 @@
 -- `processes::are_below` meets its contract.
 -- What is left from i on decides.
 use Prim.Native.Nat.{◌-◌}
-use native.Mathlib.Omega.{arith}
-use mathlib.Core.Path.{sym, ◌∙◌}
-use mathlib.Core.Bool.{true, false}
-use borrow.Author.Rules.{rules}
-use borrow.Author.Tests.{lt-ltb, le-ltb}
 use Rattle.meaning.specs.Ranges.{within}
 use Rattle.processes.specs.SummandTests.{counted_bytes, following_bytes}
-use Rattle.processes.proofs.CountedBytes.{below_left, below_all, below_next, below_none}
-use Rattle.processes.proofs.CountedBytes.{Walk, walk_start, walk_more, walk_stop, walk_end}
+use Rattle.processes.proofs.CountedBytes.{below_left}
+use Rattle.processes.proofs.CountedBytes.{Walk}
 use Rattle.processes.proofs.summands.are_below.Given as goal
 
 abbrev pub invariant-loop-i : goal.invariant-loop-i

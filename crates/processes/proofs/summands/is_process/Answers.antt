@@ -1,7 +1,6 @@
 -- `processes::is_process` meets its contract.
 -- Each test is one of the definition's; a test that fails decides.
 use mathlib.Core.Path.{◌∙◌}
-use borrow.Author.Rules.{rules}
 use Rattle.processes.proofs.FrameTests.{process_many, process_size, process_rest}
 use Rattle.processes.proofs.summands.is_process.Goals as goal
 

@@ -4,8 +4,7 @@ use native.Mathlib.Omega.{arith}
 use mathlib.Core.Path.{refl, sym, ◌∙◌}
 use lib.Dec.{ltb}
 use lib.ListN.{length}
-use borrow.Author.Rules.{rules}
-use borrow.Author.Tests.{le-leb, lt-leb, ltb-true, not-true, not-false}
+use borrow.Author.Tests.{le-leb, lt-leb, ltb-true}
 use Rattle.reading.proofs.Refusals.{&&-right}
 use Rattle.processes.specs.SummandTests.{is_step}
 use Rattle.processes.proofs.summands.is_step.Goals as goal

@@ -1,9 +1,6 @@
 -- `processes::is_summand` meets its contract.
 -- The tests are those of `summand_tested`, one after the other; in reach are the parameters, then the own variables.
-use native.Mathlib.Omega.{arith}
 use mathlib.Core.Path.{sym, ◌∙◌}
-use borrow.Author.Rules.{rules}
-use borrow.Author.Tests.{not-true, not-false}
 use Rattle.processes.proofs.SummandRead.{summand_many, summand_no_ranges, summand_rest}
 use Rattle.processes.proofs.summands.is_summand.Goals as goal
 

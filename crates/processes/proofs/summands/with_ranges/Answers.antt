@@ -1,14 +1,13 @@
 -- `processes::with_ranges` meets its contract.
 -- What was put and what is left make the whole; four behind four find place.
-use Prim.Native.Nat.{ℕ, ◌-◌, min}
+use Prim.Native.Nat.{ℕ, min}
 use native.Mathlib.Omega.{arith}
 use mathlib.Core.Path.{◌≡◌, ap, ◌∙◌}
 use mathlib.Core.List.{◌++◌}
-use borrow.Author.Rules.{rules}
 use Rattle.formulas.specs.Contract.{part}
 use Rattle.formulas.specs.Tuples.{items}
 use Rattle.inputs.specs.Inputs.{count_of}
-use Rattle.processes.proofs.CountedBytes.{Putting, put_start, put_more, put_end}
+use Rattle.processes.proofs.CountedBytes.{put_start, put_more, put_end}
 use Rattle.processes.proofs.summands.with_ranges.Goals as goal
 
 pub loop-i-init : goal.loop-i-init

@@ -1,14 +1,7 @@
 -- `processes::with_ranges` meets its contract.
 -- What was put and what is left make the whole; four behind four find place.
-use Prim.Native.Nat.{ℕ, ◌-◌, min}
-use native.Mathlib.Omega.{arith}
-use mathlib.Core.Path.{◌≡◌, ap, ◌∙◌}
-use mathlib.Core.List.{◌++◌}
-use borrow.Author.Rules.{rules}
-use Rattle.formulas.specs.Contract.{part}
-use Rattle.formulas.specs.Tuples.{items}
-use Rattle.inputs.specs.Inputs.{count_of}
-use Rattle.processes.proofs.CountedBytes.{Putting, put_start, put_more, put_end}
+use Prim.Native.Nat.{◌-◌}
+use Rattle.processes.proofs.CountedBytes.{Putting}
 use Rattle.processes.proofs.summands.with_ranges.Given as goal
 
 abbrev pub invariant-loop-i : goal.invariant-loop-i

@@ -1,10 +1,8 @@
 -- `replacer::command::decode` meets its contract.
 -- The bytes before the present one are there.
-use Prim.Native.Nat.{◌-◌}
 use native.Mathlib.Omega.{arith}
 use mathlib.Core.Path.{◌≡◌, refl}
-use borrow.Author.Rules.{rules}
-use Rattle.replacer.proofs.CommandWords.{Decoding, decoding_more}
+use Rattle.replacer.proofs.CommandWords.{decoding_more}
 use Rattle.replacer.proofs.command.decode.Goals as goal
 
 pub loop-i-init : goal.loop-i-init

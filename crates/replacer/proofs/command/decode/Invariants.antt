@@ -1,10 +1,7 @@
 -- `replacer::command::decode` meets its contract.
 -- The bytes before the present one are there.
 use Prim.Native.Nat.{◌-◌}
-use native.Mathlib.Omega.{arith}
-use mathlib.Core.Path.{◌≡◌, refl}
-use borrow.Author.Rules.{rules}
-use Rattle.replacer.proofs.CommandWords.{Decoding, decoding_more}
+use Rattle.replacer.proofs.CommandWords.{Decoding}
 use Rattle.replacer.proofs.command.decode.Given as goal
 
 abbrev pub invariant-loop-i : goal.invariant-loop-i

@@ -1,7 +1,6 @@
 -- `replacer::command::is_bytes` meets its contract.
 -- Both tests are those of the definition.
 use mathlib.Core.Path.{refl, ◌∙◌}
-use borrow.Author.Rules.{rules}
 use Rattle.replacer.proofs.command.is_bytes.Goals as goal
 
 pub returns : goal.returns

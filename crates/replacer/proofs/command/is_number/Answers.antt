@@ -1,11 +1,8 @@
 -- `replacer::command::is_number` meets its contract.
 -- What is left to look at decides.
-use Prim.Native.Nat.{◌-◌, ◌≤◌}
 use native.Mathlib.Omega.{arith}
-use mathlib.Core.Path.{◌≡◌, refl, ◌∙◌}
-use lib.ListN.{length, drop}
+use mathlib.Core.Path.{refl, ◌∙◌}
 use borrow.Author.Tests.{le-leb}
-use Rattle.replacer.specs.Printed.{all_decimal}
 use Rattle.replacer.proofs.CommandWords.{decimal_none, decimal_low, decimal_high, decimal_yes}
 use Rattle.replacer.proofs.command.is_number.Goals as goal
 

@@ -1,12 +1,8 @@
 -- `replacer::command::named_by` meets its contract.
 -- What the digits say that are left, behind the number so far, is what all of them say.
-use Prim.Native.Nat.{ℕ, ◌+◌, ◌-◌, ◌*◌, ◌≤◌, min}
+use Prim.Native.Nat.{ℕ, ◌+◌, ◌-◌, ◌*◌, min}
 use native.Mathlib.Omega.{arith}
-use mathlib.Core.Path.{◌≡◌, refl, sym, ap, ◌∙◌}
-use lib.ListN.{length, drop}
-use borrow.Author.Rules.{rules}
-use Rattle.replacer.specs.Printed.{decimal_behind}
-use Rattle.replacer.specs.Contract.{named_by}
+use mathlib.Core.Path.{refl, sym, ap, ◌∙◌}
 use Rattle.replacer.proofs.CommandWords.{number_none, number_more}
 use Rattle.replacer.proofs.command.named_by.Goals as goal
 

@@ -1,13 +1,10 @@
 -- `replacer::command::named_by` meets its contract.
 -- What the digits say that are left, behind the number so far, is what all of them say.
-use Prim.Native.Nat.{ℕ, ◌+◌, ◌-◌, ◌*◌, ◌≤◌, min}
-use native.Mathlib.Omega.{arith}
-use mathlib.Core.Path.{◌≡◌, refl, sym, ap, ◌∙◌}
+use Prim.Native.Nat.{◌-◌, ◌≤◌, min}
+use mathlib.Core.Path.{◌≡◌}
 use lib.ListN.{length, drop}
-use borrow.Author.Rules.{rules}
 use Rattle.replacer.specs.Printed.{decimal_behind}
 use Rattle.replacer.specs.Contract.{named_by}
-use Rattle.replacer.proofs.CommandWords.{number_none, number_more}
 use Rattle.replacer.proofs.command.named_by.Given as goal
 
 abbrev pub invariant-loop-i : goal.invariant-loop-i

@@ -5,8 +5,6 @@ use native.Mathlib.Omega.{arith}
 use mathlib.Core.Path.{sym, ap, ◌∙◌}
 use lib.ListN.{length, take}
 use lib.Seq.{length-take-le}
-use borrow.Author.Rules.{rules}
-use borrow.Author.Tests.{not-true, not-false}
 use Rattle.digits.specs.Digits.{bytes_of}
 use Rattle.writing.proofs.Shown.{small_buffer}
 use Rattle.replacer.proofs.CommandShown.{wrong_number, wrong_side, replacement_shown}

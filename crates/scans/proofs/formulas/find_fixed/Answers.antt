@@ -1,12 +1,11 @@
 -- `scans::find_fixed` meets its contract.
 -- Each turn passes a code; the fixed point that is sought is one of those still to come.
-use Prim.Native.Nat.{◌-◌, ◌≤◌}
+use Prim.Native.Nat.{◌≤◌}
 use native.Mathlib.Omega.{arith}
 use mathlib.Core.Path.{◌≡◌, sym, ap, ◌∙◌}
-use borrow.Author.Rules.{rules}
 use Rattle.scans.specs.Formulas.{is_fixed}
 use Rattle.scans.proofs.ScannedFormulas.{code_at, width_small}
-use Rattle.scans.proofs.Sought.{Seeking, seeking_start, seeking_passed, seeking_less, seeking_found, seeking_end}
+use Rattle.scans.proofs.Sought.{seeking_start, seeking_passed, seeking_less, seeking_found, seeking_end}
 use Rattle.scans.proofs.formulas.find_fixed.Goals as goal
 use Rattle.scans.proofs.formulas.find_fixed.Goals.{then-is_fixed+else-left-eq0, else-is_fixed}
 

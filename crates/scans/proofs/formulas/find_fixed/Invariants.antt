@@ -1,13 +1,7 @@
 -- `scans::find_fixed` meets its contract.
 -- Each turn passes a code; the fixed point that is sought is one of those still to come.
-use Prim.Native.Nat.{◌-◌, ◌≤◌}
-use native.Mathlib.Omega.{arith}
-use mathlib.Core.Path.{◌≡◌, sym, ap, ◌∙◌}
-use mathlib.Core.Logic.{⊎_elim}
-use borrow.Author.Rules.{rules}
-use Rattle.scans.specs.Formulas.{is_fixed}
-use Rattle.scans.proofs.ScannedFormulas.{code_at, width_small}
-use Rattle.scans.proofs.Sought.{Seeking, seeking_start, seeking_passed, seeking_less, seeking_found, seeking_end}
+use Prim.Native.Nat.{◌-◌}
+use Rattle.scans.proofs.Sought.{Seeking}
 use Rattle.scans.proofs.formulas.find_fixed.Given as goal
 
 abbrev pub invariant-loop-at : goal.invariant-loop-at

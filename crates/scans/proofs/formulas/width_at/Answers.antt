@@ -2,7 +2,6 @@
 -- Each branch is a branch of `width_at`.
 use mathlib.Core.Path.{refl, sym, ◌∙◌}
 use borrow.Author.Tests.{eq-eqb, ne_eqb}
-use borrow.Author.Rules.{rules}
 use Rattle.scans.specs.Formulas.{width_at}
 use Rattle.scans.proofs.formulas.width_at.Goals as goal
 

@@ -1,8 +1,6 @@
 -- `scans::is_match` meets its contract.
 -- The table says where the action stands; a place without a summand begins with another byte.
-use native.Mathlib.Omega.{arith}
 use mathlib.Core.Path.{◌∙◌}
-use borrow.Author.Rules.{rules}
 use Rattle.scans.proofs.Matching.{match_told}
 use Rattle.scans.proofs.summands.is_match.Goals as goal
 

@@ -5,7 +5,6 @@ use Prim.Native.Nat.{ℕ}
 use mathlib.Core.Path.{◌≡◌, sym, ap}
 use mathlib.Core.Bool.{Bool}
 use borrow.Author.Tests.{ne_eqb}
-use borrow.Author.Rules.{rules}
 use Rattle.scans.specs.Summands.{IsOneOf}
 use Rattle.scans.proofs.Matching.{by_code, one_of_told}
 use Rattle.scans.proofs.summands.is_one_of.Goals as goal

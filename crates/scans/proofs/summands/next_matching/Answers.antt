@@ -1,9 +1,7 @@
 -- `scans::next_matching` meets its contract.
 -- The places that were passed do not match.
-use Prim.Native.Nat.{◌-◌}
 use native.Mathlib.Omega.{arith}
-use borrow.Author.Rules.{rules}
-use Rattle.scans.proofs.Matching.{Unmatched, unmatched_start, unmatched_more, first_matched, none_matched}
+use Rattle.scans.proofs.Matching.{unmatched_start, unmatched_more, first_matched, none_matched}
 use Rattle.scans.proofs.summands.next_matching.Goals as goal
 
 pub returns-then-is_match : goal.returns-then-is_match

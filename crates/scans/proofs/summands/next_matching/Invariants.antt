@@ -1,9 +1,7 @@
 -- `scans::next_matching` meets its contract.
 -- The places that were passed do not match.
 use Prim.Native.Nat.{◌-◌}
-use native.Mathlib.Omega.{arith}
-use borrow.Author.Rules.{rules}
-use Rattle.scans.proofs.Matching.{Unmatched, unmatched_start, unmatched_more, first_matched, none_matched}
+use Rattle.scans.proofs.Matching.{Unmatched}
 use Rattle.scans.proofs.summands.next_matching.Given as goal
 
 abbrev pub invariant-loop-slot : goal.invariant-loop-slot

@@ -3,7 +3,6 @@
 use native.Mathlib.Omega.{arith}
 use mathlib.Core.Path.{ap, ◌∙◌}
 use Prim.Native.Nat.{ℕ, ◌+◌, ◌%◌}
-use borrow.Author.Rules.{rules}
 use Rattle.scans.proofs.PlacesTold.{action_told, first_told, next_told}
 use Rattle.scans.proofs.summands.place.Goals as goal
 

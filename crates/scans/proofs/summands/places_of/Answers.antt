@@ -1,8 +1,6 @@
 -- `scans::places_of` meets its contract.
 -- Each turn fills one entry of the table.
-use Prim.Native.Nat.{◌-◌}
-use native.Mathlib.Omega.{arith}
-use Rattle.scans.proofs.Placing.{Placing, placing_start, placing_more, all_placed}
+use Rattle.scans.proofs.Placing.{placing_start, placing_more, all_placed}
 use Rattle.scans.proofs.summands.places_of.Goals as goal
 
 pub loop-j-init : goal.loop-j-init

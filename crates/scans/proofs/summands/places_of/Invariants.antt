@@ -1,8 +1,7 @@
 -- `scans::places_of` meets its contract.
 -- Each turn fills one entry of the table.
 use Prim.Native.Nat.{◌-◌}
-use native.Mathlib.Omega.{arith}
-use Rattle.scans.proofs.Placing.{Placing, placing_start, placing_more, all_placed}
+use Rattle.scans.proofs.Placing.{Placing}
 use Rattle.scans.proofs.summands.places_of.Given as goal
 
 abbrev pub invariant-loop-j : goal.invariant-loop-j

@@ -1,0 +1,14 @@
+-- `translator::print_translation` meets its contract.
+-- In a buffer that is long enough the reply is shown, and its refusal is that of a buffer of the longest text.
+use native.Mathlib.Omega.{arith}
+use borrow.Author.Rules.{rules}
+use Rattle.writing.proofs.Shown.{small_buffer}
+use Rattle.translator.proofs.Shown.{translation_shown}
+use Rattle.translator.proofs.print_translation.Goals as goal
+
+pub returns : goal.returns
+returns c =
+    translation_shown _ c.translate-reply.ensures c.show.ensures (omega (arith, c.if-out-lt4117.false))
+
+pub returns-then-out-lt4117 : goal.returns-then-out-lt4117
+returns-then-out-lt4117 c = small_buffer (omega arith)
