@@ -41,9 +41,6 @@ put_part-loop-part-init t c =
     c.wide.ensures.1 (c.wide.ensures.0 ∙ c.slot_of.ensures)
     (ap (λ (n : ℕ). 256 * c.wide.result + n) c.wide-2.ensures.0)
 
-pub put_part-overflow_add-at-in-loop-part : goal.put_part-overflow_add-at-in-loop-part
-put_part-overflow_add-at-in-loop-part t c = omega arith
-
 pub put_part-put_variable-c-requires : goal.put_part-put_variable-c-requires
 put_part-put_variable-c-requires t c =
     (omega arith, (c.loop-part.invariant.size ∙ c.requires.0, c.requires.1, c.loop-part.invariant.most))
