@@ -10,8 +10,8 @@ ghost use Rattle.std.specs.Io.KnownBytes.{Consumes, IsAtEnd};
 use std::io;
 use std::io::{Input, Read};
 
-// Reads until the buffer is full or the input ends, and says how many bytes it has put at the buffer's start: the
-// next ones of the reader, which has no more where the buffer is not full.
+// Reads until the buffer is full or the input ends, and says how many bytes it has put at the buffer's start:
+// the next ones of the reader, which has no more where the buffer is not full.
 fn fill<R: Read>(reader: &mut R, buffer: &mut [u8]) -> io::Result<usize>
     ensures within { IfOk result (λ n. n ≤ length buffer.new) }
     ensures bytes { IfOk result (λ n. Consumes (R.remaining reader.old) (R.remaining reader.new)
