@@ -10,9 +10,9 @@ use Rattle.meaning.specs.Logic.{cases}
 use Rattle.meaning.specs.Order.{Below, below_trans, below_antisym, below_of_eq, below_top}
 use Rattle.systems.specs.Numbered.{Truths, Numbered, Ordered, Proper, Past}
 use Rattle.systems.specs.Solved.{solved}
-use Rattle.systems.specs.Nested.{below_bottom, past_more, none_other, rising_to}
-use Rattle.systems.specs.Nested.{solved_ordered, solved_same, solved_past}
-use Rattle.systems.specs.Nested.{solved_satisfies, solved_later, solved_least}
+use Rattle.systems.proofs.Nested.{below_bottom, past_more, none_other, rising_to}
+use Rattle.systems.proofs.Nested.{solved_ordered, solved_same, solved_past}
+use Rattle.systems.proofs.Nested.{solved_satisfies, solved_later, solved_least}
 use Rattle.systems.specs.Rounds.{from, Quiet, Hangs, Kept, Midway, Restored}
 use Rattle.systems.specs.Rounds.{Untouched, Marked, Spread, Begun}
 

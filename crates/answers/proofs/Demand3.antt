@@ -5,17 +5,19 @@ use Rattle.std.proofs.Common.{arith, sym, ap, subst, ◌∙◌}
 use mathlib.Core.List.{List, [], ◌∷◌}
 use Rattle.meaning.specs.Logic.{Is→eq, eq→Is}
 use Rattle.meaning.specs.Reach.{Instance}
-use Rattle.meaning.specs.Looser.{Looser, looser_holds}
+use Rattle.meaning.specs.Looser.{Looser}
+use Rattle.meaning.proofs.Looser.{looser_holds}
 use Rattle.reading.specs.Reading.{text_refusal}
 use Rattle.reading.proofs.WellFormed.{reading_well_formed}
 use Rattle.truth.specs.Bits.{bit_of}
 use Rattle.answers.specs.declared.Answer.{Answer}
 use Rattle.answers.specs.Answers.{the_model, the_start, list, truth_in, room_of, verdict}
 use Rattle.answers.specs.Answers.{answer, kept_words, checked}
-use Rattle.answers.specs.Demand1.{◌exactly_when◌, Reply, short_list, text_refused, too_many, judged_so}
-use Rattle.answers.specs.Demand1.{every_answer, records_enough, nine_given, kept_all}
-use Rattle.answers.specs.Demand2.{start_first, start_exactly, verdict_answered}
-use Rattle.answers.specs.Demand2.{verdict_read, verdict_room, answered, bit_is_value}
+use Rattle.answers.specs.Demand1.{◌exactly_when◌}
+use Rattle.answers.proofs.Demand1.{Reply, short_list, text_refused, too_many, judged_so}
+use Rattle.answers.proofs.Demand1.{every_answer, records_enough, nine_given, kept_all}
+use Rattle.answers.proofs.Demand2.{start_first, start_exactly, verdict_answered}
+use Rattle.answers.proofs.Demand2.{verdict_read, verdict_room, answered, bit_is_value}
 
 -- an answer that holds is a verdict
 holding_is_verdict : (t : List ℕ) (words : ℕ) → (answer t words).verdict ≡ 1 → (answer t words).number ≡ 0

@@ -9,18 +9,19 @@ use Rattle.meaning.specs.Logic.{Is}
 use Rattle.meaning.specs.Order.{below_refl, below_trans, below_antisym, below_of_eq}
 use Rattle.meaning.specs.Solution.{Args, Set, Assign, Equation, put, mem, fix, solution}
 use Rattle.meaning.specs.Models.{Model, numbered, system, nowhere, meaning}
-use Rattle.meaning.specs.FixedPoints.{greatest_fixed}
-use Rattle.meaning.specs.Systems.{Under, no_equation, kept, under, Keeps, equation}
-use Rattle.meaning.specs.InRange.{within_mem}
+use Rattle.meaning.proofs.FixedPoints.{greatest_fixed}
+use Rattle.meaning.specs.Systems.{Under, no_equation, kept, Keeps, equation}
+use Rattle.meaning.proofs.Systems.{under}
+use Rattle.meaning.proofs.InRange.{within_mem}
 use Rattle.translation.specs.Processes.{Process, states}
 use Rattle.translation.specs.Modal.{Modal, truth, combined, after, fixed_point, of_fixed_point}
 use Rattle.translation.specs.Modal.{fixed_points, satisfying, satisfies}
 use Rattle.translation.specs.Rules.{well_formed_process, well_formed_formula, well_formed_input}
 use Rattle.translation.specs.Translation.{equation_of, equations, begins_with_fixed_point, translated}
 use Rattle.translation.specs.RuleLaws.{around_none, input_process, input_formula, initial_within}
-use Rattle.translation.specs.Core.{side, meant, side_rising, satisfying_agrees, outside_below, solved}
+use Rattle.translation.proofs.Core.{side, meant, side_rising, satisfying_agrees, outside_below, solved}
 use Rattle.translation.specs.LastFirst.{put_here, solution_without}
-use Rattle.translation.specs.RightSides.{body_says}
+use Rattle.translation.proofs.RightSides.{body_says}
 
 system_append : (n : ℕ) (es fs : Model) → system n (es ++ fs) ≡ system n es ++ system (n + length es) fs
 unfolding system

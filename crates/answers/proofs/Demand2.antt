@@ -17,12 +17,13 @@ use Rattle.meaning.specs.Ranges.{signatures, typed, well_formed}
 use Rattle.meaning.specs.Words.{word}
 use Rattle.meaning.specs.Members.{Once}
 use Rattle.meaning.specs.Search.{ReachedBy}
-use Rattle.meaning.specs.Reached.{found_from, reached_once, reached_closed, reached_by_steps, steps_reached}
-use Rattle.meaning.specs.Reached.{reached_typed, reached_in_order}
-use Rattle.meaning.specs.Stages.{stage_start, stage_prefix}
+use Rattle.meaning.specs.Reached.{found_from}
+use Rattle.meaning.proofs.Reached.{reached_once, reached_closed, reached_by_steps, steps_reached}
+use Rattle.meaning.proofs.Reached.{reached_typed, reached_in_order}
+use Rattle.meaning.proofs.Stages.{stage_start, stage_prefix}
 use Rattle.meaning.specs.Table.{narrow}
-use Rattle.meaning.specs.Solving.{table_value}
-use Rattle.meaning.specs.WordLaws.{word_injective}
+use Rattle.meaning.proofs.Solving.{table_value}
+use Rattle.meaning.proofs.WordLaws.{word_injective}
 use Rattle.reading.specs.Reading.{text_refusal}
 use Rattle.reading.proofs.WellFormed.{reading_well_formed}
 use Rattle.truth.specs.Bits.{bit, bit_of, count_below}
@@ -31,7 +32,8 @@ use Rattle.truth.proofs.Words.{truth_words_bits, truth_words_count}
 use Rattle.answers.specs.declared.Answer.{Answer}
 use Rattle.answers.specs.Answers.{the_model, the_start, list, truth_in, shown_values, room_of}
 use Rattle.answers.specs.Answers.{verdict, answer}
-use Rattle.answers.specs.Demand1.{◌exactly_when◌, verdict_given, then_verdict, records_enough}
+use Rattle.answers.specs.Demand1.{◌exactly_when◌}
+use Rattle.answers.proofs.Demand1.{verdict_given, then_verdict, records_enough}
 
 -- ---- the list, of a text that is not refused
 module _ (t : List ℕ) (r : (text_refusal t).number ≡ 0) where

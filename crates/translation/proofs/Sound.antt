@@ -10,7 +10,7 @@ use Rattle.meaning.specs.Formulas.{Formula, constant, joined, quantified, compar
 use Rattle.meaning.specs.Models.{Model}
 use Rattle.meaning.specs.Ranges.{sound, signatures, typed}
 use Rattle.meaning.specs.Ranges.{well_formed_equation, well_formed_equations, well_formed}
-use Rattle.meaning.specs.Typed.{signatures_length, well_formed_count, well_formed_all}
+use Rattle.meaning.proofs.Typed.{signatures_length, well_formed_count, well_formed_all}
 use Rattle.translation.specs.Processes.{Process}
 use Rattle.translation.specs.Modal.{fixed_points}
 use Rattle.translation.specs.Modal.{Modal, truth, combined, after, fixed_point, of_fixed_point}
@@ -20,9 +20,10 @@ use Rattle.translation.specs.Translation.{translated, translated_start}
 use Rattle.translation.specs.Translation.{four_quantifiers, each_four_quantifiers}
 use Rattle.translation.specs.RuleLaws.{Around, around_none, around_more, input_process, input_formula}
 use Rattle.translation.specs.RuleLaws.{parameter_count, parameter_ranges, initial_within}
-use Rattle.translation.specs.States.{start_ready}
-use Rattle.translation.specs.SoundSides.{Declared, Equation_of, right_side_kept}
-use Rattle.translation.specs.Correct.{equations_count, translated_cases}
+use Rattle.translation.proofs.States.{start_ready}
+use Rattle.translation.specs.SoundSides.{Declared}
+use Rattle.translation.proofs.SoundSides.{Equation_of, right_side_kept}
+use Rattle.translation.proofs.Correct.{equations_count, translated_cases}
 
 -- equations in a row
 equations_append : (declared : List (List ℕ)) (es fs : Model) → Is (well_formed_equations declared es) →

@@ -16,7 +16,7 @@ use Rattle.translation.specs.Modal.{Modal, truth, combined, after, fixed_point, 
 use Rattle.translation.specs.Modal.{fixed_points, after_steps, satisfying}
 use Rattle.translation.specs.Rules.{well_formed_formula}
 use Rattle.translation.specs.RuleLaws.{Around, around_more}
-use Rattle.translation.specs.Steps.{after_steps_rising}
+use Rattle.translation.proofs.Steps.{after_steps_rising}
 use Rattle.translation.specs.LastFirst.{put_here, Without, solution_without, without_append}
 use Rattle.translation.specs.LastFirst.{through, through_append, last_first}
 

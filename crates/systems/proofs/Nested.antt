@@ -8,9 +8,11 @@ use Rattle.std.proofs.Math.Path.{refl, sym, ap, fun_ext}
 use Rattle.meaning.specs.Logic.{Is, is, never, cases, and-true}
 use Rattle.meaning.specs.Order.{Below, up, down, upward, downward, below_refl, below_trans, below_of_eq}
 use Rattle.meaning.specs.Solution.{Args, Set, mem}
-use Rattle.meaning.specs.Members.{mem_head, mem_tail}
-use Rattle.meaning.specs.FixedPoints.{Mono, part_in}
-use Rattle.meaning.specs.Iteration.{iterated, iterated_reaches}
+use Rattle.meaning.proofs.Members.{mem_head, mem_tail}
+use Rattle.meaning.specs.FixedPoints.{Mono}
+use Rattle.meaning.proofs.FixedPoints.{part_in}
+use Rattle.meaning.specs.Iteration.{iterated}
+use Rattle.meaning.proofs.Iteration.{iterated_reaches}
 use Rattle.systems.specs.Numbered.{Truths, Numbered, Ordered, Proper, Past}
 use Rattle.systems.specs.Solved.{filled, always, repeated}
 use Rattle.systems.specs.Solved.{first_candidate, next_candidate, turn, solved}

@@ -19,7 +19,7 @@ use Rattle.inputs.specs.Inputs.{count_of, ranges_of}
 use Rattle.inputs.specs.Inputs.{no_summand, input_refusal, content_of, process_of, formula_of}
 use Rattle.inputs.specs.InputFrames.{process_frame, summand_frame, formula_frame, input_frames}
 use Rattle.inputs.specs.Sheet.{slot_of, sheet_over, sheet_of, Sheet}
-use Rattle.inputs.specs.Content.{Each, content_spelled, content_formed, content_writable}
+use Rattle.inputs.proofs.Content.{Each, content_spelled, content_formed, content_writable}
 
 -- ---- bytes that are stored: they stand there, and all others are as they were
 stored : (l w : List ℕ) (q : ℕ) → q + length w ≤ length l → Stands (sets l q w) q w

@@ -8,7 +8,7 @@ use Rattle.meaning.specs.Reach.{Instance}
 use Rattle.digits.specs.Digits.{in_small_letters}
 use Rattle.digits.proofs.Letters.{append_small}
 use Rattle.frames.specs.Frames.{line_of}
-use Rattle.frames.specs.Letters.{frames_in_small, line_small}
+use Rattle.frames.proofs.Letters.{frames_in_small, line_small}
 use Rattle.reading.specs.Letters.{refusal_in_small}
 use Rattle.answers.specs.declared.Answer.{Answer}
 use Rattle.answers.specs.Answers.{the_model, list, shown_values, verdict, judged, answer, table_after}
