@@ -3,7 +3,7 @@
 use mathlib.Core.Path.{refl, sym, ◌∙◌}
 use borrow.Author.Tests.{eq-eqb, ne_eqb}
 use Rattle.scans.specs.Formulas.{width_at}
-use Rattle.scans.proofs.formulas.width_at.Goals as goal
+use Rattle.scans.proofs.modals.width_at.Goals as goal
 
 pub returns-then-code-eq52 : goal.returns-then-code-eq52
 unfolding width_at

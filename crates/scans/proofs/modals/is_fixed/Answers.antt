@@ -3,7 +3,7 @@
 use mathlib.Core.Path.{refl}
 use borrow.Author.Tests.{eq-eqb, ne_eqb}
 use Rattle.scans.specs.Formulas.{is_fixed}
-use Rattle.scans.proofs.formulas.is_fixed.Goals as goal
+use Rattle.scans.proofs.modals.is_fixed.Goals as goal
 
 pub returns-then-code-eq50 : goal.returns-then-code-eq50
 unfolding is_fixed

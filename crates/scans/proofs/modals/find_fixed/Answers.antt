@@ -6,8 +6,8 @@ use mathlib.Core.Path.{◌≡◌, sym, ap, ◌∙◌}
 use Rattle.scans.specs.Formulas.{is_fixed}
 use Rattle.scans.proofs.ScannedFormulas.{code_at, width_small}
 use Rattle.scans.proofs.Sought.{seeking_start, seeking_passed, seeking_less, seeking_found, seeking_end}
-use Rattle.scans.proofs.formulas.find_fixed.Goals as goal
-use Rattle.scans.proofs.formulas.find_fixed.Goals.{then-is_fixed+else-left-eq0, else-is_fixed}
+use Rattle.scans.proofs.modals.find_fixed.Goals as goal
+use Rattle.scans.proofs.modals.find_fixed.Goals.{then-is_fixed+else-left-eq0, else-is_fixed}
 
 pub loop-at-preserved : goal.loop-at-preserved
 loop-at-preserved c =

@@ -2,7 +2,7 @@
 -- Each turn passes a code; the fixed point that is sought is one of those still to come.
 use Prim.Native.Nat.{◌-◌}
 use Rattle.scans.proofs.Sought.{Seeking}
-use Rattle.scans.proofs.formulas.find_fixed.Given as goal
+use Rattle.scans.proofs.modals.find_fixed.Given as goal
 
 abbrev pub invariant-loop-at : goal.invariant-loop-at
 invariant-loop-at l = Seeking l.sheet l.number l.left l.at

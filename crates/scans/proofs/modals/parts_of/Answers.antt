@@ -4,7 +4,7 @@ use native.Mathlib.Omega.{arith}
 use mathlib.Core.Path.{sym, ap}
 use borrow.Author.Tests.{ne_eqb}
 use Rattle.scans.specs.Formulas.{parts_of}
-use Rattle.scans.proofs.formulas.parts_of.Goals as goal
+use Rattle.scans.proofs.modals.parts_of.Goals as goal
 
 pub returns-in_default : goal.returns-in_default
 unfolding parts_of

@@ -8,8 +8,8 @@ use Rattle.scans.specs.Formulas.{is_fixed, parts_of}
 use Rattle.scans.proofs.Spelled.{more_to_come, none_to_come}
 use Rattle.scans.proofs.ScannedFormulas.{parts_few, width_small}
 use Rattle.scans.proofs.Skipping.{skipping_start, skipping_turn, skipping_end}
-use Rattle.scans.proofs.formulas.skip.Goals as goal
-use Rattle.scans.proofs.formulas.skip.Goals.{then-is_fixed, else-is_fixed}
+use Rattle.scans.proofs.modals.skip.Goals as goal
+use Rattle.scans.proofs.modals.skip.Goals.{then-is_fixed, else-is_fixed}
 
 pub loop-code-preserved : goal.loop-code-preserved
 loop-code-preserved c =
