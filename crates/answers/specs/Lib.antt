@@ -3,10 +3,7 @@ pub mod Answers
 pub mod Printed
 -- the promises
 pub mod Demand1
-pub mod Demand2
-pub mod Demand3
 pub mod Apart
-pub mod Letters
 pub mod OneReply
 -- the definitions tried on the sample models
 pub mod Samples

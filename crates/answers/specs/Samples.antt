@@ -1,5 +1,5 @@
--- The sample models of document 01 that are marked P, from their texts: one table under one theorem.
--- Computed from the definitions alone. Nothing of the laws is used, so a slip in a definition shows here.
+-- Definitions that the theorems of `proofs/Samples` speak of.
+-- Each stands alone; what follows from them is there.
 use Rattle.std.specs.Prelude.{ℕ, zero, suc, ◌+◌, ◌-◌, ◌≡◌, refl, cond, List, [], ◌∷◌, ◌++◌, map, eqb, ltb, length, take, drop, replicate}
 use Prim.Native.Char.{code}
 use Prim.Native.String.{String, len, char_at}
@@ -160,16 +160,3 @@ outcome s = (printed (bytes s.text), map (given (bytes s.text)) s.lendings)
 
 abbrev pub expected : Sample → List ℕ × List (Answer × (List ℕ × List Answer))
 expected s = (bytes s.output, map promised s.lendings)
-
--- every sample marked P has the output, the answer and the table that document 01 gives, and those of
--- requests 2026-02 and 2026-04 what these give; solving answers as request 2026-05 says
-pub samples_computed : map outcome samples ≡ map expected samples
-unfolding bytes_from bytes ◌and◌ ◌or◌ ◌⇒◌ join over same mem all every some least greatest solution sum
-    difference value holds spread in_range system meaning join_simplified simplified leaves instances
-    body_of next fresh explore every_instance reached all_ranges term_range arguments_fit fits within typed
-    word bytes_of row_of in_row term_of_kind term_at formula_of_kind formula_at body_at is_body is_fitting
-    lines_of all_digits line_refusal frames_from frames is_valid_head frames_with model_of equation_refusal
-    start_refusal frame_refusal instances_judged start_judged finished frames_judged text_refusal from_digits
-    words count_true list truth_in shown_values verdict judged answer table_after checked table_after_check
-    characters line_of instance_lines answer_lines printed is_found list_answer solved
-samples_computed = refl

@@ -13,7 +13,7 @@ use Rattle.meaning.specs.Models.{ModelEquation, Model}
 use Rattle.meaning.specs.Reach.{Instance}
 use Rattle.frames.specs.Frames.{line_of, text_of}
 use Rattle.frames.specs.PutLine.{place_after, line_put, LinePut}
-use Rattle.frames.specs.Written.{line_length}
+use Rattle.frames.proofs.Written.{line_length}
 use Rattle.spelling.specs.Spelled.{equation_frame, start_frame, model_frames}
 use Rattle.translation.specs.Translation.{four_quantifiers}
 use Rattle.emitter.proofs.EquationLaws.{sets_parts}

@@ -5,7 +5,7 @@ use mathlib.Core.Path.{◌≡◌, refl, sym, subst, ap, ap₂, ◌∙◌}
 use mathlib.Core.Bool.{Bool}
 use mathlib.Core.List.{List, [], ◌∷◌, ◌++◌}
 use lib.ListN.{length, get_or}
-use Rattle.meaning.specs.Typed.{within_length}
+use Rattle.meaning.proofs.Typed.{within_length}
 use Rattle.formulas.specs.Contract.{part}
 use Rattle.spelling.specs.Stands.{Stands, first, after_one, left_part, right_part}
 use Rattle.translation.specs.Processes.{Process}

@@ -13,7 +13,7 @@ use Rattle.meaning.specs.Logic.{cases}
 use Rattle.meaning.specs.Models.{Model}
 use Rattle.frames.specs.Frames.{line_of, text_of}
 use Rattle.frames.specs.PutLine.{LinePut}
-use Rattle.frames.specs.Written.{line_length}
+use Rattle.frames.proofs.Written.{line_length}
 use Rattle.spelling.specs.Spelled.{equation_frame, start_frame}
 use Rattle.translation.specs.Processes.{Process}
 use Rattle.translation.specs.Modal.{Modal}

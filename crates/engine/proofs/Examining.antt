@@ -11,7 +11,7 @@ use lib.Seq.{take_at}
 use borrow.Author.Tests.{ltb-true, ltb-false, le-leb, lt-leb, eq-eqb, ne_eqb}
 use Rattle.meaning.specs.Logic.{◌and◌, never, eq→Is}
 use Rattle.meaning.specs.Solution.{same}
-use Rattle.meaning.specs.Members.{same_eq}
+use Rattle.meaning.proofs.Members.{same_eq}
 use Rattle.meaning.specs.Reach.{Instance}
 use Rattle.meaning.specs.Words.{word}
 use Rattle.reading.specs.declared.Model.{Model}
@@ -25,8 +25,8 @@ use Rattle.truth.proofs.Words.{truth_words_bits, truth_words_count}
 use Rattle.answers.specs.declared.Answer.{Answer}
 use Rattle.answers.specs.Answers.{the_model, the_start, list, truth_in, shown_values, room_of, kept_words, table_after}
 use Rattle.answers.specs.Answers.{refusal, verdict, judged, answer, is_found, list_answer}
-use Rattle.answers.specs.Demand1.{kept_all}
-use Rattle.answers.specs.Demand2.{start_first}
+use Rattle.answers.proofs.Demand1.{kept_all}
+use Rattle.answers.proofs.Demand2.{start_first}
 use Rattle.preparing.specs.Promise.{Prepares}
 use Rattle.finding.specs.declared.Found.{Found}
 use Rattle.finding.specs.Found.{Searchable, FoundIn, Finds}

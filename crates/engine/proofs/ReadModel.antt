@@ -10,8 +10,8 @@ use borrow.Author.Tests.{eq-eqb, lt-ltb}
 use Rattle.meaning.specs.Logic.{Is, and_r, eq→Is}
 use Rattle.meaning.specs.Models.{ModelEquation, Model}
 use Rattle.meaning.specs.Ranges.{signatures, typed}
-use Rattle.meaning.specs.Typed.{within_length, well_formed_count}
-use Rattle.meaning.specs.WordLaws.{first_of_four}
+use Rattle.meaning.proofs.Typed.{within_length, well_formed_count}
+use Rattle.meaning.proofs.WordLaws.{first_of_four}
 use Rattle.frames.specs.Lines.{line_place}
 use Rattle.frames.specs.Frames.{Frame, frames}
 use Rattle.formulas.specs.declared.Equation.{Equation}

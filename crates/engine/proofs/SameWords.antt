@@ -6,7 +6,7 @@ use mathlib.Core.Bool.{Bool, true, false}
 use mathlib.Core.List.{List}
 use Rattle.meaning.specs.Logic.{Is→eq, eq→Is}
 use Rattle.meaning.specs.Solution.{same}
-use Rattle.meaning.specs.Members.{same_eq, same_refl}
+use Rattle.meaning.proofs.Members.{same_eq, same_refl}
 
 pub equal_same : (a b : List ℕ) → a ≡ b → true ≡ same a b
 equal_same a b e = rw (e, Is→eq (same_refl b)) refl

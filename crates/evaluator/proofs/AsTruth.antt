@@ -9,7 +9,7 @@ use Rattle.meaning.specs.Solution.{Args, Assign, mem}
 use Rattle.meaning.specs.Formulas.{Formula, constant, joined, quantified, compared, instance, holds}
 use Rattle.meaning.specs.Simplification.{simplified}
 use Rattle.meaning.specs.Reach.{Instance, instances}
-use Rattle.meaning.specs.Simplified.{holds_depends}
+use Rattle.meaning.proofs.Simplified.{holds_depends}
 use Rattle.meaning.specs.Words.{word}
 use Rattle.evaluator.specs.declared.Value.{Value}
 use Rattle.evaluator.specs.declared.Value.TheVariants.{False, True, Open}

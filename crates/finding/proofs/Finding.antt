@@ -11,16 +11,18 @@ use lib.ListN.{get_or-map}
 use lib.Seq.{take-suc-set, get_or-take, get_or_at, take_all, take_at, take-append-le, length-take-le}
 use borrow.Author.Tests.{lt-ltb, le-ltb, ltb-true, ltb-false}
 use Rattle.meaning.specs.Logic.{Is, never}
-use Rattle.meaning.specs.Members.{mem_right, mem_head}
+use Rattle.meaning.proofs.Members.{mem_right, mem_head}
 use Rattle.meaning.specs.Solution.{mem}
 use Rattle.meaning.specs.Models.{Model}
 use Rattle.meaning.specs.Ranges.{signatures, typed, well_formed}
-use Rattle.meaning.specs.Typed.{next_typed}
+use Rattle.meaning.proofs.Typed.{next_typed}
 use Rattle.meaning.specs.Reach.{Instance, next, reached}
 use Rattle.meaning.specs.Words.{word}
-use Rattle.meaning.specs.WordLaws.{word_injective}
-use Rattle.meaning.specs.Search.{new, regroup}
-use Rattle.meaning.specs.Stages.{Stage, stage_start, stage_step, stage_typed, stage_prefix, stage_end, Begins, begins_length}
+use Rattle.meaning.proofs.WordLaws.{word_injective}
+use Rattle.meaning.specs.Search.{new}
+use Rattle.meaning.proofs.Search.{regroup}
+use Rattle.meaning.specs.Stages.{Stage, Begins}
+use Rattle.meaning.proofs.Stages.{stage_start, stage_step, stage_typed, stage_prefix, stage_end, begins_length}
 use Rattle.formulas.specs.declared.Equation.{Equation}
 use Rattle.truth.specs.Bits.{bit_of, nowhere}
 use Rattle.words.specs.Unpacked.{equation_number}

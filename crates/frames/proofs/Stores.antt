@@ -14,7 +14,7 @@ use borrow.Author.Tests.{le-leb}
 use Rattle.digits.specs.Digits.{digits_of, characters}
 use Rattle.frames.specs.Frames.{line_of}
 use Rattle.frames.specs.PutLine.{place_after, line_put, LinePut, Puts}
-use Rattle.frames.specs.Written.{line_length}
+use Rattle.frames.proofs.Written.{line_length}
 
 -- ---- a run of stores, cut where one part of it ends
 

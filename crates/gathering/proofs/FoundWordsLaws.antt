@@ -14,10 +14,10 @@ use lib.Seq.{take_at, take_all, length-take-le}
 use borrow.Author.Tests.{lt-ltb, le-ltb, eqb-false}
 use Rattle.meaning.specs.Logic.{◌or◌, Is, or_l, or_r, or_e, same_truth, Is→eq}
 use Rattle.meaning.specs.Solution.{mem, same}
-use Rattle.meaning.specs.Members.{same_eq, same_refl, mem_head, mem_tail, mem_cases, mem_left, mem_right, mem_split}
-use Rattle.meaning.specs.Members.{mem_one}
+use Rattle.meaning.proofs.Members.{same_eq, same_refl, mem_head, mem_tail, mem_cases, mem_left, mem_right, mem_split}
+use Rattle.meaning.proofs.Members.{mem_one}
 use Rattle.meaning.specs.Reach.{Instance, fresh}
-use Rattle.meaning.specs.Fresh.{fresh_same}
+use Rattle.meaning.proofs.Fresh.{fresh_same}
 use Rattle.meaning.specs.Words.{word}
 use Rattle.truth.specs.Bits.{put_in}
 use Rattle.evaluator.specs.Values.{index_of}

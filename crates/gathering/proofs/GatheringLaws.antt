@@ -13,7 +13,7 @@ use Rattle.meaning.specs.Logic.{over, over_related}
 use Rattle.meaning.specs.Over.{between, between_one, between_parts}
 use Rattle.meaning.specs.Formulas.{Formula, constant, quantified, test_holds}
 use Rattle.meaning.specs.Ranges.{is_range}
-use Rattle.meaning.specs.Typed.{range_positive}
+use Rattle.meaning.proofs.Typed.{range_positive}
 use Rattle.meaning.specs.Simplification.{leaf, Simplified, decided, left, join_simplified, simplified}
 use Rattle.meaning.specs.Reach.{leaves, instances}
 use Rattle.formulas.specs.declared.Kind.{Kind}

@@ -11,5 +11,3 @@ pub mod ModalRead
 pub mod FramesSpelled
 -- the frames of a text that is not refused are those of its process and its formula
 pub mod Content
--- laid out, they are a sheet of that process and formula
-pub mod SheetLaws

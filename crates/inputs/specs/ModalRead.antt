@@ -11,7 +11,8 @@ use Rattle.formulas.specs.Decode.{Parsed, none, some, then}
 use Rattle.formulas.proofs.Decoded.{Every, unread, each, every_then, every_last}
 use Rattle.spelling.specs.Spelled.{either_code}
 use Rattle.spelling.specs.Stands.{Stands, first, after_one, left_part, right_part}
-use Rattle.spelling.specs.SpelledThere.{There, there_nothing, there_byte, there_both, read_there}
+use Rattle.spelling.specs.SpelledThere.{There}
+use Rattle.spelling.proofs.SpelledThere.{there_nothing, there_byte, there_both, read_there}
 use Rattle.translation.specs.Modal.{Actions, any_action, only, other_than}
 use Rattle.translation.specs.Modal.{Modal, truth, combined, after, fixed_point, of_fixed_point}
 use Rattle.inputs.specs.Modals.{actions_at, modal_of_code, modal_at}

@@ -14,8 +14,8 @@ use Rattle.meaning.specs.Logic.{Is, ◌and◌, ◌or◌, join, join_makes, join_
 use Rattle.meaning.specs.Solution.{mem}
 use Rattle.meaning.specs.Simplification.{Tree, leaf, node, Simplified, decided, left, tree_holds, simplified_holds}
 use Rattle.meaning.specs.Reach.{Instance, leaves, instances}
-use Rattle.meaning.specs.Members.{mem_head, mem_nothing, mem_one, mem_left, mem_right, mem_split}
-use Rattle.meaning.specs.Simplified.{holds_simplified, holds_depends}
+use Rattle.meaning.proofs.Members.{mem_head, mem_nothing, mem_one, mem_left, mem_right, mem_split}
+use Rattle.meaning.proofs.Simplified.{holds_simplified, holds_depends}
 use Rattle.meaning.specs.Words.{word}
 use Rattle.formulas.specs.declared.Equation.{Equation}
 use Rattle.truth.proofs.RowLaws.{last_none, last_some, last_within}

@@ -11,9 +11,9 @@ use Rattle.meaning.specs.Formulas.{constant}
 use Rattle.meaning.specs.Models.{ModelEquation, Model}
 use Rattle.meaning.specs.Ranges.{signatures, typed, well_formed}
 use Rattle.meaning.specs.Reach.{Instance, body_of}
-use Rattle.meaning.specs.Typed.{typed_equation, well_formed_count, signatures_length, ranges_count}
+use Rattle.meaning.proofs.Typed.{typed_equation, well_formed_count, signatures_length, ranges_count}
 use Rattle.meaning.specs.Words.{word}
-use Rattle.meaning.specs.WordLaws.{typed_length, word_equation, word_arguments}
+use Rattle.meaning.proofs.WordLaws.{typed_length, word_equation, word_arguments}
 use Rattle.formulas.specs.declared.Equation.{Equation}
 use Rattle.formulas.specs.Bodies.{ranges_of}
 use Rattle.words.specs.Unpacked.{equation_number}

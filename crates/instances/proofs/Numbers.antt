@@ -12,7 +12,7 @@ use borrow.Author.Tests.{eqb-true, eq-eqb}
 use Rattle.meaning.specs.Logic.{Is, cases}
 use Rattle.meaning.specs.Solution.{mem}
 use Rattle.meaning.specs.Reach.{Instance}
-use Rattle.meaning.specs.Members.{mem_head, mem_tail, mem_cases, mem_nothing}
+use Rattle.meaning.proofs.Members.{mem_head, mem_tail, mem_cases, mem_nothing}
 use Rattle.meaning.specs.Words.{word}
 use Rattle.evaluator.specs.Values.{index_of}
 use Rattle.instances.specs.Graph.{numbers}

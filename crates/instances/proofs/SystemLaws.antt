@@ -9,7 +9,7 @@ use lib.ListN.{length, get_or}
 use borrow.Author.Tests.{ltb-true, eqb-true}
 use Rattle.meaning.specs.Order.{Below, below_refl}
 use Rattle.meaning.specs.Formulas.{holds}
-use Rattle.meaning.specs.Monotone.{holds_rising}
+use Rattle.meaning.proofs.Monotone.{holds_rising}
 use Rattle.meaning.specs.Words.{word}
 use Rattle.formulas.specs.declared.Equation.{Equation}
 use Rattle.words.specs.Unpacked.{equation_number}

@@ -17,7 +17,7 @@ use Rattle.systems.specs.Numbered.{Truths, Numbered, Proper, Past}
 use Rattle.instances.specs.Sides.{among_first, names, is_greatest, numbered_system}
 use Rattle.instances.proofs.SystemLaws.{of_named}
 use Rattle.systems.specs.Solved.{filled, always, repeated, first_candidate, next_candidate, turn, solved, Unsolved}
-use Rattle.systems.specs.Nested.{solved_same}
+use Rattle.systems.proofs.Nested.{solved_same}
 use Rattle.nested.specs.Candidates.{names_below, constants, first_candidates}
 
 -- ---- repeating

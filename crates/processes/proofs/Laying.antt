@@ -16,10 +16,11 @@ use Rattle.spelling.specs.Stands as stands
 use Rattle.inputs.specs.Inputs.{count_of, ranges_of, is_process, with_code, first_frame, is_none}
 use Rattle.inputs.specs.Inputs.{keeps_rules, and_frame}
 use Rattle.inputs.specs.Sheet.{slot_of, sheet_over, sheet_of}
-use Rattle.inputs.specs.FramesSpelled.{process_fits}
-use Rattle.inputs.specs.Content.{code_more, Stage, nothing, begun, whole, Next, a_note, a_process, a_summand, a_formula}
-use Rattle.inputs.specs.Content.{next_frame, next_stage}
-use Rattle.inputs.specs.SheetLaws.{sheet_size, sheet_more, sheet_first, first_ranges}
+use Rattle.inputs.proofs.FramesSpelled.{process_fits}
+use Rattle.inputs.specs.Content.{Stage, nothing, begun, whole, Next, a_note, a_process, a_summand, a_formula}
+use Rattle.inputs.proofs.Content.{code_more}
+use Rattle.inputs.proofs.Content.{next_frame, next_stage}
+use Rattle.inputs.proofs.SheetLaws.{sheet_size, sheet_more, sheet_first, first_ranges}
 use Rattle.processes.specs.Contract.{is_next}
 
 -- ---- a sheet that begins with a process

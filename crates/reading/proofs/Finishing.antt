@@ -12,7 +12,8 @@ use lib.Seq.{take_at, drop-cons}
 use borrow.Author.Tests.{leb-true, leb-false, eq-eqb, ne_eqb}
 use Rattle.meaning.specs.Logic.{◌and◌, and-false, cases}
 use Rattle.meaning.specs.Ranges.{signatures, typed}
-use Rattle.meaning.specs.WordLaws.{four_of, first_of_four}
+use Rattle.meaning.specs.WordLaws.{four_of}
+use Rattle.meaning.proofs.WordLaws.{first_of_four}
 use Rattle.frames.specs.Lines.{line_place}
 use Rattle.frames.specs.Frames.{Frame, frames}
 use Rattle.formulas.specs.declared.Equation.{Equation}

@@ -9,9 +9,10 @@ use lib.Dec.{eqb, ltb, leb}
 use lib.ListN.{length, get_or, take, length-take}
 use borrow.Author.Tests.{le-leb, leb-true, lt-ltb, le-ltb, eqb-true, eqb-false}
 use Rattle.meaning.specs.Logic.{◌and◌, eq→Is, cases}
-use Rattle.meaning.specs.Typed.{within_length}
+use Rattle.meaning.proofs.Typed.{within_length}
 use Rattle.meaning.specs.Ranges.{is_range, all_ranges, within, typed}
-use Rattle.meaning.specs.WordLaws.{four_of, first_of_four}
+use Rattle.meaning.specs.WordLaws.{four_of}
+use Rattle.meaning.proofs.WordLaws.{first_of_four}
 use Rattle.formulas.specs.Bodies.{blank, ranges_of}
 use Rattle.formulas.proofs.Bodies.{take_most, signatures_length, signature_at}
 use Rattle.reading.specs.declared.Model.{Model}

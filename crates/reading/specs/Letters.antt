@@ -6,7 +6,7 @@ use Rattle.std.proofs.Common.{ap}
 use Rattle.digits.specs.Digits.{in_small_letters}
 use Rattle.frames.specs.Lines.{line_place}
 use Rattle.frames.specs.Frames.{Frame}
-use Rattle.frames.specs.Letters.{frames_in_small, place_in_small}
+use Rattle.frames.proofs.Letters.{frames_in_small, place_in_small}
 use Rattle.reading.specs.Models.{equations_in, starts_in}
 use Rattle.reading.specs.Reading.{text_refusal}
 use Rattle.reading.specs.Records.{model_record, kept, reading}

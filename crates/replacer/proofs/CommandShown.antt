@@ -14,7 +14,7 @@ use Rattle.meaning.specs.Logic.{cases}
 use Rattle.digits.specs.Digits.{bytes_of}
 use Rattle.digits.proofs.Pairs.{length_bytes}
 use Rattle.frames.specs.Frames.{frames}
-use Rattle.frames.specs.Whole.{text_right}
+use Rattle.frames.proofs.Whole.{text_right}
 use Rattle.reading.specs.Models.{equations_in}
 use Rattle.reading.specs.Reading.{Refusal, refused, text_refusal}
 use Rattle.reading.proofs.LineNumbers.{long_text_one}
@@ -23,9 +23,10 @@ use Rattle.writing.specs.declared.Writing.{Writing}
 use Rattle.writing.specs.Printed.{printed, Shows}
 use Rattle.writing.proofs.Shown.{printed_short, prints}
 use Rattle.replacer.specs.Replaced.{replaced_text, replacement_refusal, Replaces}
-use Rattle.replacer.specs.Order.{Due, old_text, not_there, new_text, no_room, none, due_given, every_refusal}
-use Rattle.replacer.specs.Standing.{standing, frames_read}
-use Rattle.replacer.specs.Result.{result_length, reaches}
+use Rattle.replacer.specs.Order.{Due, old_text, not_there, new_text, no_room, none}
+use Rattle.replacer.proofs.Order.{due_given, every_refusal}
+use Rattle.replacer.proofs.Standing.{standing, frames_read}
+use Rattle.replacer.proofs.Result.{result_length, reaches}
 use Rattle.replacer.specs.Printed.{is_number, is_bytes, decimal, longest_text, printed_replacement, PrintsReplacement}
 
 -- ---- what is printed of a refusal hangs on the refusal alone

@@ -23,10 +23,13 @@ use Rattle.reading.proofs.Drafts.{EquationSound, Drafted, count_is}
 use Rattle.reading.proofs.Finishing as finishing
 use Rattle.reading.proofs.WellFormed.{text_passed, parameters, reading_drafted}
 use Rattle.replacer.specs.Replaced.{equation_frame, replaced_text}
-use Rattle.replacer.specs.Standing.{Standing, standing}
-use Rattle.replacer.specs.Result.{Small, bytes_there, line_there, head_there, place_there, size_there}
-use Rattle.replacer.specs.Result.{result_length, reaches}
-use Rattle.replacer.specs.Judged.{side_refusal, result_judged}
+use Rattle.replacer.specs.Standing.{Standing}
+use Rattle.replacer.proofs.Standing.{standing}
+use Rattle.replacer.specs.Result.{Small}
+use Rattle.replacer.proofs.Result.{bytes_there, line_there, head_there, place_there, size_there}
+use Rattle.replacer.proofs.Result.{result_length, reaches}
+use Rattle.replacer.specs.Judged.{side_refusal}
+use Rattle.replacer.proofs.Judged.{result_judged}
 use Rattle.replacer.specs.Contract.{side_number}
 
 -- ---- a number with the line that it is told with: 1 is of the whole text, the others of the equation's line

@@ -1,3 +1,12 @@
+pub mod Order
+pub mod Heads
+pub mod Judging
+pub mod Standing
+pub mod Result
+pub mod Judged
+pub mod Theorems
+pub mod Samples
+pub mod Letters
 pub mod SideNumbers
 pub mod PartsPut
 pub mod Known

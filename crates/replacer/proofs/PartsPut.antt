@@ -8,7 +8,7 @@ use lib.ListN.{length}
 use lib.Seq.{sets, length-sets}
 use Rattle.frames.specs.Frames.{line_of}
 use Rattle.frames.specs.PutLine.{LinePut, Puts}
-use Rattle.frames.specs.Written.{line_length}
+use Rattle.frames.proofs.Written.{line_length}
 use Rattle.frames.proofs.Stores.{line_then, line_puts}
 use Rattle.writing.specs.Writing.{BytesPut}
 use Rattle.writing.proofs.Laws.{puts}

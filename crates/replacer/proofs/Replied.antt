@@ -14,8 +14,10 @@ use Rattle.reading.specs.Records.{reading}
 use Rattle.writing.specs.Writing.{refusal_reply}
 use Rattle.writing.proofs.Laws.{refuses, writes}
 use Rattle.replacer.specs.Replaced.{replaced_text, Replaces}
-use Rattle.replacer.specs.Order.{Due, old_text, not_there, new_text, no_room, none, due_given}
-use Rattle.replacer.specs.Result.{Small, result_cut, result_length, reaches}
+use Rattle.replacer.specs.Order.{Due, old_text, not_there, new_text, no_room, none}
+use Rattle.replacer.proofs.Order.{due_given}
+use Rattle.replacer.specs.Result.{Small}
+use Rattle.replacer.proofs.Result.{result_cut, result_length, reaches}
 use Rattle.replacer.specs.Contract.{side_number}
 use Rattle.replacer.proofs.Known.{ReadAs, Named, same_refusal, read, count_there, equation, in_text, there}
 use Rattle.replacer.proofs.Known.{place_is, size_is, one_told, line_told, none_told, size_told}

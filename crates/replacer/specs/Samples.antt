@@ -1,5 +1,5 @@
--- The edge cases of request 2026-01, from their texts: one table under one theorem.
--- Computed from the definitions alone. Nothing of the laws is used, so a slip in a definition shows here.
+-- Definitions that the theorems of `proofs/Samples` speak of.
+-- Each stands alone; what follows from them is there.
 use Rattle.std.specs.Prelude.{ℕ, ◌≡◌, refl, cond, List, [], ◌∷◌, map, eqb, replicate}
 use Prim.Native.String.{String}
 use Rattle.meaning.specs.Logic.{◌and◌}
@@ -75,12 +75,3 @@ outcome s =
 
 abbrev pub expected : Sample → Refusal × List ℕ
 expected s = (s.refusal, bytes s.result)
-
--- each has the refusal and the text that the request gives
-pub samples_replaced : map outcome samples ≡ map expected samples
-unfolding bytes_from bytes ◌and◌ all_ranges term_range arguments_fit fits within typed bytes_of characters
-    row_of in_row term_of_kind term_at formula_of_kind formula_at body_at is_body is_fitting lines_of joined
-    all_digits line_refusal frames_from frames is_valid_head frames_with model_of equation_refusal
-    start_refusal frame_refusal instances_judged start_judged finished frames_judged text_refusal
-    replaced_text replacement_refusal
-samples_replaced = refl

@@ -2,10 +2,10 @@
 // one: each says how many bytes it takes with its operands, and how many parts follow it.
 #![tactic(auto)]
 
-mod formulas;
+mod modals;
 mod summands;
 
-pub use formulas::{find_fixed, is_fixed, parts_of, skip};
+pub use modals::{find_fixed, is_fixed, parts_of, skip};
 pub use summands::{next_matching, part_parts, part_width, places_of};
 
 // Where a formula ends, and how many fixed points stand in it.

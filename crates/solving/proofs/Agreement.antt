@@ -13,11 +13,14 @@ use borrow.Author.Tests.{eqb-true}
 use Rattle.meaning.specs.Logic.{Is, and-true}
 use Rattle.meaning.specs.Solution.{Args, Set, Assign, Equation, put, mem, fix, solution}
 use Rattle.meaning.specs.Reach.{Instance}
-use Rattle.meaning.specs.Members.{mem_head, mem_tail}
-use Rattle.meaning.specs.FixedPoints.{part_in}
-use Rattle.meaning.specs.Systems.{image, Rising, AllRising, image_rising}
-use Rattle.meaning.specs.Iteration.{iterated, iterated_reaches}
-use Rattle.meaning.specs.Table.{arguments_at, arguments_mem, arguments_length, narrow}
+use Rattle.meaning.proofs.Members.{mem_head, mem_tail}
+use Rattle.meaning.proofs.FixedPoints.{part_in}
+use Rattle.meaning.specs.Systems.{image, Rising, AllRising}
+use Rattle.meaning.proofs.Systems.{image_rising}
+use Rattle.meaning.specs.Iteration.{iterated}
+use Rattle.meaning.proofs.Iteration.{iterated_reaches}
+use Rattle.meaning.specs.Table.{arguments_at, narrow}
+use Rattle.meaning.proofs.Table.{arguments_mem, arguments_length}
 use Rattle.systems.specs.Numbered.{Truths, Numbered}
 use Rattle.systems.specs.Solved.{filled, always, repeated, first_candidate, next_candidate, turn, solved}
 

@@ -15,8 +15,8 @@ use Rattle.truth.specs.Rows.{row_of, unlike_in, joined, last_below}
 use Rattle.systems.specs.Numbered.{Truths, Numbered, Proper}
 use Rattle.systems.specs.Solved.{solved}
 use Rattle.systems.specs.Rounds.{Quiet, Midway, Restored, Spread, Begun}
-use Rattle.systems.specs.RoundLaws.{begun, finished, midway, midway_ends}
-use Rattle.systems.specs.RoundLaws.{restored_none, restored_more, spread_none, spread_then}
+use Rattle.systems.proofs.RoundLaws.{begun, finished, midway, midway_ends}
+use Rattle.systems.proofs.RoundLaws.{restored_none, restored_more, spread_none, spread_then}
 use Rattle.instances.specs.Sides.{is_greatest, numbered_system}
 use Rattle.instances.specs.Graph.{reads_in, members_row, GraphOf}
 use Rattle.instances.proofs.SystemLaws.{of_named, system_proper}

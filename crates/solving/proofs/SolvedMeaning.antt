@@ -17,13 +17,14 @@ use Rattle.meaning.specs.Models.{Model, system, nowhere, meaning}
 use Rattle.meaning.specs.Reach.{Instance, body_of, next, reached}
 use Rattle.meaning.specs.Ranges.{typed}
 use Rattle.meaning.specs.Words.{word}
-use Rattle.meaning.specs.Members.{mem_cases, mem_nothing}
+use Rattle.meaning.proofs.Members.{mem_cases, mem_nothing}
 use Rattle.meaning.specs.Systems.{AllRising}
-use Rattle.meaning.specs.Monotone.{system_rising}
-use Rattle.meaning.specs.Table.{narrow, narrow_rising}
-use Rattle.meaning.specs.Reached.{reached_closed, reached_typed}
-use Rattle.meaning.specs.Solving.{table_value}
-use Rattle.meaning.specs.WordLaws.{word_injective}
+use Rattle.meaning.proofs.Monotone.{system_rising}
+use Rattle.meaning.specs.Table.{narrow}
+use Rattle.meaning.proofs.Table.{narrow_rising}
+use Rattle.meaning.proofs.Reached.{reached_closed, reached_typed}
+use Rattle.meaning.proofs.Solving.{table_value}
+use Rattle.meaning.proofs.WordLaws.{word_injective}
 use Rattle.formulas.specs.declared.Equation.{Equation}
 use Rattle.truth.specs.Bits as sets
 use Rattle.truth.specs.Words.{truth_words}
@@ -38,7 +39,7 @@ use Rattle.instances.specs.Sides.{side_of, is_true, sides, among_first, names, n
 use Rattle.instances.specs.Models.{model_from, model_in, WellFormedModel}
 use Rattle.instances.proofs.Models.{model_length, body_there, Typed, named, typed_below, word_number, word_names}
 use Rattle.systems.specs.Solved.{solved}
-use Rattle.systems.specs.Nested as outside
+use Rattle.systems.proofs.Nested as outside
 use Rattle.solving.proofs.Agreement.{Agrees, inside, mem_at, listed, Divided, Right, Follows, solved_agrees}
 
 -- ---- the words of a list of instances

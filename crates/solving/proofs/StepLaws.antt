@@ -18,7 +18,7 @@ use Rattle.truth.proofs.Bits.{beq_eq, updated_is}
 use Rattle.truth.proofs.RowLaws.{last_none, last_some, last_within, rank, last_falls}
 use Rattle.systems.specs.Numbered.{Truths, Numbered}
 use Rattle.systems.specs.Rounds.{Untouched, Marked, Spread}
-use Rattle.systems.specs.RoundLaws.{spread_none, spread_then, midway_stays, midway_moves, midway_unchanged}
+use Rattle.systems.proofs.RoundLaws.{spread_none, spread_then, midway_stays, midway_moves, midway_unchanged}
 use Rattle.instances.specs.Sides.{among_first, names, numbered_system}
 use Rattle.instances.specs.Graph.{reads_in, readers_row, members_row, plain_row, GraphOf}
 use Rattle.instances.proofs.SystemLaws.{of_named, system_proper}

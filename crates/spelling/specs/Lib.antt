@@ -2,8 +2,6 @@
 pub mod Spelled
 -- bytes that stand at a place
 pub mod Stands
--- what is spelled is read
-pub mod ReadBack
 -- and what is read stands there as it is spelled
 pub mod SpelledThere
 -- so the text of a model is read as that model

@@ -1,5 +1,3 @@
 pub mod Numbered
 pub mod Solved
-pub mod Nested
 pub mod Rounds
-pub mod RoundLaws

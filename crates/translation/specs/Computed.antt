@@ -1,5 +1,5 @@
--- Samples of a process and a formula, each with the model and the verdict that a plain reader of 02 gave.
--- Computed from the definitions alone. Above each stands its text, strokes between the frames.
+-- Definitions that the theorems of `proofs/Computed` speak of.
+-- Each stands alone; what follows from them is there.
 use Rattle.std.specs.Prelude.{ℕ, ◌≡◌, refl, Bool, true, false, List, [], ◌∷◌, map}
 use Rattle.meaning.specs.Logic.{◌and◌, ◌or◌, ◌⇒◌, join, over}
 use Rattle.meaning.specs.Solution.{same, mem, all, every, some, least, greatest, solution}
@@ -195,13 +195,3 @@ in_front = sample (process (2 ∷ 2 ∷ []) (0 ∷ 1 ∷ [])
 
 unfoldable pub samples : List Sample
 samples = always_a_step ∷ some_time_a_step ∷ going_round ∷ nested ∷ beside ∷ constants ∷ in_front ∷ []
-
-pub samples_computed : map outcome samples ≡ map expected samples
-unfolding samples outcome expected meaning solution least greatest every some all mem same ◌and◌ ◌or◌ ◌⇒◌
-    join over holds value sum difference spread in_range system sound_term sound_terms sound term_range
-    arguments_fit within all_ranges any leads steps one_of fixed_points after_steps satisfying satisfies plain
-    well_formed_summand well_formed_summands well_formed_process action_fits among well_formed_formula
-    well_formed_input substituted_term substituted opposite negated guard quantifiers variables_from matching
-    joined_all after_summand right_side equations begins_with_fixed_point translated each_four_quantifiers
-    four_quantifiers
-samples_computed = refl

@@ -7,17 +7,13 @@ pub mod Translation
 pub mod Computed
 -- laws of the rules, of substitution, of quantifiers, of steps
 pub mod RuleLaws
-pub mod Substituted
 pub mod Quantifiers
 pub mod Steps
 -- a formula and its equations
 pub mod LastFirst
-pub mod Core
 pub mod States
 pub mod RightSides
-pub mod Correct
 -- the model is well-formed
 pub mod SoundSides
-pub mod Sound
 -- one summand more
 pub mod Looser

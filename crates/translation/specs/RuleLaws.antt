@@ -8,7 +8,7 @@ use Rattle.meaning.specs.Logic.{Is, never, Is→T, and_l, and_r, and_i, or_e}
 use Rattle.meaning.specs.Solution.{Args}
 use Rattle.meaning.specs.Formulas.{values}
 use Rattle.meaning.specs.Ranges.{sound_terms, sound, arguments_fit, within, all_ranges}
-use Rattle.meaning.specs.Typed.{values_within}
+use Rattle.meaning.proofs.Typed.{values_within}
 use Rattle.translation.specs.Processes.{Summand, Process}
 use Rattle.translation.specs.Modal.{Modal}
 use Rattle.translation.specs.Rules.{plain, well_formed_summand, well_formed_summands}

@@ -10,8 +10,8 @@ use lib.Seq.{sets, length-sets}
 use borrow.Author.Tests.{eq-eqb}
 use Rattle.inputs.specs.Inputs.{input_refusal, content_of, process_of, formula_of}
 use Rattle.inputs.specs.Sheet.{sheet_of}
-use Rattle.inputs.specs.Content.{content_formed}
-use Rattle.inputs.specs.SheetLaws.{content_sheet}
+use Rattle.inputs.proofs.Content.{content_formed}
+use Rattle.inputs.proofs.SheetLaws.{content_sheet}
 use Rattle.processes.specs.Kept.{input}
 use Rattle.processes.specs.declared.Input.{Input}
 use Rattle.emitter.specs.declared.Built.{Built}

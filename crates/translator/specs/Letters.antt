@@ -5,7 +5,7 @@ use Rattle.std.proofs.Math.Path.{refl}
 use Rattle.std.proofs.Common.{ap}
 use Rattle.digits.specs.Digits.{in_small_letters}
 use Rattle.frames.specs.Frames.{Frames}
-use Rattle.frames.specs.Letters.{frames_in_small, text_small}
+use Rattle.frames.proofs.Letters.{frames_in_small, text_small}
 use Rattle.spelling.specs.Spelled.{model_frames}
 use Rattle.translation.specs.Translation.{translated, translated_start}
 use Rattle.inputs.specs.Inputs.{process_in, formula_in, judged, content_of, input_refusal, process_of}

@@ -12,18 +12,19 @@ use Rattle.frames.specs.Frames.{frames}
 use Rattle.reading.specs.Models.{model_of, start_in}
 use Rattle.reading.specs.Reading.{Refusal, refused, text_refusal}
 use Rattle.spelling.specs.Spelled.{equation_frame, model_frames}
-use Rattle.spelling.specs.ModelText.{AllShort, model_frames_short, model_text_read, model_text_model}
-use Rattle.spelling.specs.ModelText.{model_text_start, model_text_short}
+use Rattle.spelling.specs.ModelText.{AllShort}
+use Rattle.spelling.proofs.ModelText.{model_frames_short, model_text_read, model_text_model}
+use Rattle.spelling.proofs.ModelText.{model_text_start, model_text_short}
 use Rattle.translation.specs.Modal.{satisfies}
 use Rattle.translation.specs.Rules.{well_formed_input}
 use Rattle.translation.specs.Translation.{translated, translated_start, each_four_quantifiers}
-use Rattle.translation.specs.Correct.{translation_correct}
-use Rattle.translation.specs.Sound.{translation_well_formed}
+use Rattle.translation.proofs.Correct.{translation_correct}
+use Rattle.translation.proofs.Sound.{translation_well_formed}
 use Rattle.inputs.specs.Inputs.{input_refusal, process_of, formula_of}
-use Rattle.inputs.specs.Content.{content_formed}
+use Rattle.inputs.proofs.Content.{content_formed}
 use Rattle.answers.specs.Answers.{answer}
 use Rattle.answers.specs.Demand1.{◌exactly_when◌}
-use Rattle.answers.specs.Demand2.{holds_exactly}
+use Rattle.answers.proofs.Demand2.{holds_exactly}
 use Rattle.emitter.specs.Limits.{equation_fits, each_fits, within_limits}
 use Rattle.translator.specs.Answers.{model_for, translated_text, translation_refusal}
 

@@ -13,12 +13,14 @@ use Rattle.meaning.specs.Solution.{Args, mem}
 use Rattle.meaning.specs.Models.{Model, spread, in_range}
 use Rattle.meaning.specs.Reach.{Instance}
 use Rattle.meaning.specs.Ranges.{signatures, typed, well_formed}
-use Rattle.meaning.specs.Typed.{ranges_at, typed_equation, signatures_length}
-use Rattle.meaning.specs.Members.{AllOf, Once, mem_head, mem_tail, mem_cases, mem_nothing}
-use Rattle.meaning.specs.InRange.{within_mem}
-use Rattle.meaning.specs.Pigeonhole.{pigeonhole}
+use Rattle.meaning.specs.Typed.{ranges_at}
+use Rattle.meaning.proofs.Typed.{typed_equation, signatures_length}
+use Rattle.meaning.specs.Members.{AllOf, Once}
+use Rattle.meaning.proofs.Members.{mem_head, mem_tail, mem_cases, mem_nothing}
+use Rattle.meaning.proofs.InRange.{within_mem}
+use Rattle.meaning.proofs.Pigeonhole.{pigeonhole}
 use Rattle.meaning.specs.Words.{word}
-use Rattle.meaning.specs.WordLaws.{word_equation}
+use Rattle.meaning.proofs.WordLaws.{word_equation}
 use Rattle.words.specs.Unpacked.{equation_number}
 use Rattle.words.specs.Counts.{count_with, count_none, count_one, count_other}
 

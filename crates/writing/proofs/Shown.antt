@@ -12,7 +12,7 @@ use borrow.Author.Tests.{eq-eqb, ne_eqb, eqb-true, eqb-false, le-leb, lt-leb, le
 use Rattle.meaning.specs.Logic.{cases}
 use Rattle.frames.specs.Frames.{line_of}
 use Rattle.frames.specs.PutLine.{LinePut, Puts}
-use Rattle.frames.specs.Written.{line_length}
+use Rattle.frames.proofs.Written.{line_length}
 use Rattle.frames.proofs.Stores.{line_puts}
 use Rattle.reading.specs.Reading.{Refusal}
 use Rattle.writing.specs.declared.Writing.{Writing}

@@ -6,7 +6,7 @@ use mathlib.Core.Path.{◌≡◌, sym, ap, ◌∙◌}
 use lib.ListN.{length}
 use lib.Seq.{length-take-le}
 use borrow.Author.Rules.{rules}
-use Rattle.meaning.specs.Typed.{range_positive}
+use Rattle.meaning.proofs.Typed.{range_positive}
 use Rattle.formulas.specs.Codes.{kind_of}
 use Rattle.formulas.specs.Tuples.{items}
 use Rattle.prepared.proofs.Steps.{end_on}

@@ -3,7 +3,7 @@
 use Prim.Native.Nat.{◌+◌}
 use native.Mathlib.Omega.{arith}
 use mathlib.Core.Path.{sym, ap, ◌∙◌}
-use Rattle.meaning.specs.Typed.{range_positive}
+use Rattle.meaning.proofs.Typed.{range_positive}
 use Rattle.formulas.specs.Codes.{term_kind_of}
 use Rattle.prepared.proofs.Steps.{end_on}
 use Rattle.evaluator.proofs.TermLaws as law
