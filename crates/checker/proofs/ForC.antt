@@ -7,7 +7,7 @@ use lib.ListN.{length}
 use Rattle.reading.specs.Reading.{Refusal}
 use Rattle.writing.specs.declared.Writing.{Writing}
 use Rattle.writing.specs.Writing.{Writes}
-use Rattle.answers.specs.Answers.{answer, checked}
+use Rattle.answers.specs.Answers.{checked}
 use Rattle.answers.specs.Demand1.{line_at_most_32769}
 use Rattle.engine.specs.declared.Examined.{Examined}
 use Rattle.engine.specs.Examined.{counted, Examines}

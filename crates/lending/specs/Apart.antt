@@ -12,7 +12,7 @@ use Rattle.answers.specs.Demand1.{refusal_clear}
 use Rattle.answers.specs.Apart.{find_then_solve}
 use Rattle.lending.specs.declared.Record.{Record}
 use Rattle.lending.specs.declared.FindAnswer.{FindAnswer}
-use Rattle.lending.specs.Records.{find_answer, records_after, records_of}
+use Rattle.lending.specs.Records.{records_after, records_of}
 use Rattle.lending.specs.Records.{records_after_check, records_after_solve}
 use Rattle.lending.specs.Promises.{Found, Solved, Checked}
 use Rattle.lending.specs.Lent.{lent_after_find, records_counted}

@@ -14,8 +14,8 @@ use borrow.Author.Tests.{eqb-true, leb-true, le-leb, lt-leb}
 use Rattle.meaning.specs.Words.{word}
 use Rattle.reading.specs.Reading.{text_refusal}
 use Rattle.reading.specs.Records.{reading}
-use Rattle.answers.specs.Answers.{the_model, list, shown_values, verdict, answer, table_after, solved, list_answer}
-use Rattle.answers.specs.Demand1.{listed_table, table_after_length}
+use Rattle.answers.specs.Answers.{the_model, list, shown_values, verdict, answer, solved, list_answer}
+use Rattle.answers.specs.Demand1.{listed_table}
 use Rattle.answers.specs.Demand2.{listed_in_range, verdict_answered, verdict_read, verdict_room, answered, bits_shown}
 use Rattle.answers.specs.Apart.{TheList, solving_given, solving_verdict}
 use Rattle.answers.specs.Printed.{instance_lines, verdict_frame, refusal_frame, answer_lines, printed, printed_solved}

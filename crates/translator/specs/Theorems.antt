@@ -1,23 +1,23 @@
 -- THEOREMS about a text that is translated: what is written is read as the model, and it holds exactly when
 -- the start state satisfies the formula.
 -- Each is a theorem of the crates below, for the process and the formula of an accepted text.
-use Rattle.std.specs.Prelude.{ℕ, zero, suc, ◌≤◌, ◌≡◌, refl, Bool, true, false, cond, ◌&&◌, List, [], ◌∷◌, map, eqb, leb, length, get_or}
+use Rattle.std.specs.Prelude.{ℕ, zero, suc, ◌≤◌, ◌≡◌, refl, Bool, true, false, cond, List, [], ◌∷◌, map, eqb, leb, length}
 use Rattle.std.proofs.Common.{arith, sym, subst, ap, ◌∙◌, eqb-true, leb-true}
 use Rattle.std.proofs.Math.Bool.{and-eq-true_iff}
 use Rattle.std.proofs.lemmas.Bool.{eqb-false}
 use Rattle.meaning.specs.Logic.{Is, is, eq→Is, and_i}
-use Rattle.meaning.specs.Models.{ModelEquation, Model, meaning}
+use Rattle.meaning.specs.Models.{Model, meaning}
 use Rattle.meaning.specs.Ranges.{well_formed}
 use Rattle.frames.specs.Frames.{frames}
 use Rattle.reading.specs.Models.{model_of, start_in}
-use Rattle.reading.specs.Reading.{Refusal, refused, text_refusal}
+use Rattle.reading.specs.Reading.{refused, text_refusal}
 use Rattle.spelling.specs.Spelled.{equation_frame, model_frames}
 use Rattle.spelling.specs.ModelText.{AllShort}
 use Rattle.spelling.proofs.ModelText.{model_frames_short, model_text_read, model_text_model}
 use Rattle.spelling.proofs.ModelText.{model_text_start, model_text_short}
 use Rattle.translation.specs.Modal.{satisfies}
 use Rattle.translation.specs.Rules.{well_formed_input}
-use Rattle.translation.specs.Translation.{translated, translated_start, each_four_quantifiers}
+use Rattle.translation.specs.Translation.{translated_start, each_four_quantifiers}
 use Rattle.translation.proofs.Correct.{translation_correct}
 use Rattle.translation.proofs.Sound.{translation_well_formed}
 use Rattle.inputs.specs.Inputs.{input_refusal, process_of, formula_of}

@@ -1,7 +1,6 @@
 -- `translator::print_translation` meets its contract.
 -- In a buffer that is long enough the reply is shown, and its refusal is that of a buffer of the longest text.
 use native.Mathlib.Omega.{arith}
-use borrow.Author.Rules.{rules}
 use Rattle.writing.proofs.Shown.{small_buffer}
 use Rattle.translator.proofs.Shown.{translation_shown}
 use Rattle.translator.proofs.print_translation.Goals as goal

@@ -4,7 +4,6 @@ use native.Mathlib.Omega.{arith}
 use mathlib.Core.Path.{◌≡◌, refl, sym, ap, ◌∙◌}
 use mathlib.Core.Bool.{true}
 use lib.Seq.{length-take-le}
-use borrow.Author.Rules.{rules}
 use borrow.Author.Tests.{not-true, not-false}
 use Rattle.processes.specs.Kept.{input}
 use Rattle.processes.specs.declared.Input.{Input}
@@ -24,35 +23,35 @@ returns-then-not-built c =
     let known : Told c.args.text.now c.model_text-built.result =
     told c.read_input-input.ensures c.if-input-ne0.false refl c.model_text-built.ensures in
     let k = known in
-    rw c.refuse-then-not-built.ensures (stays_limits _ _ k.read (too_large k (c.if-not-built.true)))
+    rw c.refuse-then-not-built.ensures (stays_limits _ _ k.read (too_large k (not-true _ c.if-not-built.true)))
 
 pub returns-then-out-built : goal.returns-then-out-built
 returns-then-out-built c =
     let known : Told c.args.text.now c.model_text-built.result =
     told c.read_input-input.ensures c.if-input-ne0.false refl c.model_text-built.ensures in
     let k = known in
-    let fits = c.if-not-built.false in
+    let fits = not-false _ c.if-not-built.false in
     rw c.refuse-then-out-built.ensures (stays_room _ _ k.read (within k fits) (omega (arith, size k fits, c.if-out-built.true)))
 
 pub slice_bounds-model-end : goal.slice_bounds-model-end
 slice_bounds-model-end c =
     let known : Told c.args.text.now c.model_text-built.result =
     told c.read_input-input.ensures c.if-input-ne0.false refl c.model_text-built.ensures in
-    let fits_at : c.model_text-built.result.ok ≡ true = c.if-not-built.false in
+    let fits_at : c.model_text-built.result.ok ≡ true = not-false _ c.if-not-built.false in
     room known fits_at
 
 pub slice_bounds-put-end : goal.slice_bounds-put-end
 slice_bounds-put-end c =
     let known : Told c.args.text.now c.model_text-built.result =
     told c.read_input-input.ensures c.if-input-ne0.false refl c.model_text-built.ensures in
-    let fits_at : c.model_text-built.result.ok ≡ true = c.if-not-built.false in
+    let fits_at : c.model_text-built.result.ok ≡ true = not-false _ c.if-not-built.false in
     sym (length-take-le _ _ (room known fits_at))
 
 pub returns : goal.returns
 returns c =
     let known : Told c.args.text.now c.model_text-built.result =
     told c.read_input-input.ensures c.if-input-ne0.false refl c.model_text-built.ensures in
-    let fits_at : c.model_text-built.result.ok ≡ true = c.if-not-built.false in
+    let fits_at : c.model_text-built.result.ok ≡ true = not-false _ c.if-not-built.false in
     let k = known in
     let fits = fits_at in
     model_put _ _ k.read (within k fits) (omega (arith, size k fits, c.if-out-built.false))
