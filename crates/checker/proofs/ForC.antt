@@ -8,7 +8,7 @@ use Rattle.reading.specs.Reading.{Refusal}
 use Rattle.writing.specs.declared.Writing.{Writing}
 use Rattle.writing.specs.Writing.{Writes}
 use Rattle.answers.specs.Answers.{checked}
-use Rattle.answers.specs.Demand1.{line_at_most_32769}
+use Rattle.answers.proofs.Demand1.{line_at_most_32769}
 use Rattle.engine.specs.declared.Examined.{Examined}
 use Rattle.engine.specs.Examined.{counted, Examines}
 use Rattle.checker.specs.Promises.{reply_word, count_reply, WritesForC, FindsForC}

@@ -4,7 +4,7 @@
 use Rattle.std.specs.Prelude.{ℕ, ◌<◌, ◌≡◌, refl, Bool, true, false, List, eqb, length, take}
 use Rattle.std.proofs.Common.{arith, ap₂, subst, ◌∙◌, eqb-true}
 use Rattle.answers.specs.Answers.{answer}
-use Rattle.answers.specs.Apart.{apart_prints}
+use Rattle.answers.proofs.Apart.{apart_prints}
 use Rattle.answers.specs.Printed.{printed_solved}
 use Rattle.printing.specs.Promise.{WritesLines, Written, SolvedWritten}
 use Rattle.checker.specs.Promises.{FindsForC, reply_word}

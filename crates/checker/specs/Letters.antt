@@ -7,12 +7,12 @@ use Rattle.std.proofs.lemmas.List.{length-map}
 use Rattle.meaning.specs.OneReply.{one_reply}
 use Rattle.digits.specs.Digits.{small_letter, in_small_letters}
 use Rattle.reading.specs.Reading.{Refusal}
-use Rattle.answers.specs.Letters.{answer_in_small, table_in_small, printed_in_small, printed_solved_in_small}
+use Rattle.answers.proofs.Letters.{answer_in_small, table_in_small, printed_in_small, printed_solved_in_small}
 use Rattle.printing.specs.Promise.{Written, SolvedWritten}
 use Rattle.writing.specs.Writing.{reply_of}
 use Rattle.translator.specs.Letters.{translated_in_small, translation_in_small}
 use Rattle.replacer.specs.Replaced.{replaced_text, replacement_refusal}
-use Rattle.replacer.specs.Letters.{replaced_in_small, replacement_in_small}
+use Rattle.replacer.proofs.Letters.{replaced_in_small, replacement_in_small}
 use Rattle.checker.specs.Promises.{FindsForC, TranslatesForC, ReplacesForC, reply_word}
 
 reply_in_small : (r : Refusal) (text : List ℕ) → reply_of r (in_small_letters text) ≡ reply_of r text

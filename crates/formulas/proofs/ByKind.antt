@@ -19,9 +19,9 @@ use Rattle.formulas.specs.declared.TermKind.TheVariants.{NoTerm, Number, Variabl
 use Rattle.formulas.specs.declared.Test.{Test}
 use Rattle.formulas.specs.Codes.{kind_of, term_kind_of}
 use Rattle.formulas.specs.Decode.{in_row, nth_term, test_of, term_at, formula_at}
-use Rattle.formulas.specs.Shapes.{no_term_kind, shape_no_term, shape_number, shape_variable, shape_calculation}
-use Rattle.formulas.specs.Shapes.{no_kind, shape_no_formula, shape_constant, shape_join, shape_quantifier}
-use Rattle.formulas.specs.Shapes.{shape_compare, shape_instance}
+use Rattle.formulas.proofs.Shapes.{no_term_kind, shape_no_term, shape_number, shape_variable, shape_calculation}
+use Rattle.formulas.proofs.Shapes.{no_kind, shape_no_formula, shape_constant, shape_join, shape_quantifier}
+use Rattle.formulas.proofs.Shapes.{shape_compare, shape_instance}
 use Rattle.formulas.specs.Contract.{Told, refused, told, TermTold, TermsTold, InstanceTold}
 use Rattle.formulas.specs.Contract.{ToldWithin, within, FormulaTold}
 use Rattle.formulas.proofs.Told.{told_then, told_stop, told_last, told_when, told_unless, told_map}

@@ -1,3 +1,4 @@
+pub mod Shapes
 pub mod Told
 pub mod ByKind
 pub mod Columns

@@ -1,2 +1,5 @@
+pub mod Lent
+pub mod Apart
+pub mod Letters
 pub mod Agree
 pub mod Lists

@@ -2,5 +2,3 @@ pub mod Records
 pub mod Promises
 pub mod Prepared
 pub mod Lent
-pub mod Apart
-pub mod Letters

@@ -16,7 +16,7 @@ use Rattle.formulas.specs.declared.TermKind.{TermKind}
 use Rattle.formulas.specs.declared.TermKind.TheVariants.{NoTerm, Number, Variable, Calculation}
 use Rattle.formulas.specs.Codes.{kind_of, term_kind_of}
 use Rattle.formulas.specs.Decode.{test_of}
-use Rattle.formulas.specs.Shapes.{no_kind, no_term_kind}
+use Rattle.formulas.proofs.Shapes.{no_kind, no_term_kind}
 use Rattle.prepared.specs.Prepared.{byte_at, end_at, term_by, term_from, terms_by, formula_by, formula_from}
 use Rattle.prepared.specs.Prepared.{term_there, formula_there}
 

@@ -16,8 +16,8 @@ use Rattle.formulas.specs.declared.TermKind.{TermKind}
 use Rattle.formulas.specs.declared.TermKind.TheVariants.{NoTerm, Number, Variable, Calculation}
 use Rattle.formulas.specs.Codes.{kind_of, term_kind_of}
 use Rattle.formulas.specs.Decode.{some, in_row, nth_term, test_of, term_at, terms_at, formula_at}
-use Rattle.formulas.specs.Shapes.{no_kind, no_term_kind, shape_no_term, shape_number, shape_variable, shape_calculation}
-use Rattle.formulas.specs.Shapes.{shape_no_formula, shape_constant, shape_join, shape_quantifier, shape_compare, shape_instance}
+use Rattle.formulas.proofs.Shapes.{no_kind, no_term_kind, shape_no_term, shape_number, shape_variable, shape_calculation}
+use Rattle.formulas.proofs.Shapes.{shape_no_formula, shape_constant, shape_join, shape_quantifier, shape_compare, shape_instance}
 use Rattle.formulas.proofs.Decoded.{Every, unread, each, every_then, every_last, every_when}
 use Rattle.prepared.specs.Prepared.{end_at, term_by, terms_by, formula_by, term_there, terms_there, formula_there}
 use Rattle.prepared.proofs.Steps.{term_step, formula_step}

@@ -15,14 +15,15 @@ use Rattle.meaning.specs.Words.{word}
 use Rattle.reading.specs.Reading.{text_refusal}
 use Rattle.reading.specs.Records.{reading}
 use Rattle.answers.specs.Answers.{the_model, list, shown_values, verdict, answer, solved, list_answer}
-use Rattle.answers.specs.Demand1.{listed_table}
-use Rattle.answers.specs.Demand2.{listed_in_range, verdict_answered, verdict_read, verdict_room, answered, bits_shown}
-use Rattle.answers.specs.Apart.{TheList, solving_given, solving_verdict}
+use Rattle.answers.proofs.Demand1.{listed_table}
+use Rattle.answers.proofs.Demand2.{listed_in_range, verdict_answered, verdict_read, verdict_room, answered, bits_shown}
+use Rattle.answers.specs.Apart.{TheList}
+use Rattle.answers.proofs.Apart.{solving_given, solving_verdict}
 use Rattle.answers.specs.Printed.{instance_lines, verdict_frame, refusal_frame, answer_lines, printed, printed_solved}
 use Rattle.answers.specs.Printed.{smallest_buffer, bytes_written, buffer_after}
 use Rattle.frames.specs.Frames.{line_of}
 use Rattle.frames.specs.PutLine.{Puts}
-use Rattle.frames.specs.Written.{line_length}
+use Rattle.frames.proofs.Written.{line_length}
 use Rattle.engine.specs.declared.Examined.{Examined}
 use Rattle.engine.specs.Examined.{whole, Examines, Solves}
 use Rattle.printing.specs.Promise.{WritesLines}

@@ -8,7 +8,7 @@ use mathlib.Core.Bool.{false}
 use mathlib.Core.List.{List, [], ◌∷◌, ◌++◌, map}
 use lib.ListN.{length, get_or}
 use Rattle.meaning.specs.Logic.{Is, never}
-use Rattle.meaning.specs.Members.{mem_head, mem_tail}
+use Rattle.meaning.proofs.Members.{mem_head, mem_tail}
 use Rattle.meaning.specs.Solution.{mem}
 use Rattle.meaning.specs.Ranges.{typed}
 use Rattle.meaning.specs.Reach.{Instance}

@@ -17,7 +17,7 @@ use Rattle.truth.specs.Bits.{bit, bit_of}
 use Rattle.answers.specs.Printed.{verdict_frame, refusal_frame}
 use Rattle.frames.specs.Frames.{line_of}
 use Rattle.frames.specs.PutLine.{Puts}
-use Rattle.frames.specs.Written.{line_length}
+use Rattle.frames.proofs.Written.{line_length}
 use Rattle.frames.proofs.Stores.{sets_append}
 use Rattle.words.specs.Unpacked.{argument_tuple}
 use Rattle.engine.specs.declared.Examined.{Examined}

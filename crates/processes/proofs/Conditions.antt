@@ -15,7 +15,7 @@ use Rattle.formulas.specs.declared.Kind.{Kind}
 use Rattle.formulas.specs.declared.Kind.TheVariants.{NoFormula, Constant, Join, Quantifier, Compare, Instance}
 use Rattle.formulas.specs.Codes.{kind_of}
 use Rattle.formulas.specs.Decode.{Parsed, none, some, then, when, nth_term, test_of, terms_at, formula_at}
-use Rattle.formulas.specs.Shapes.{shape_no_formula, shape_constant, shape_join, shape_quantifier, shape_compare, shape_instance}
+use Rattle.formulas.proofs.Shapes.{shape_no_formula, shape_constant, shape_join, shape_quantifier, shape_compare, shape_instance}
 use Rattle.formulas.specs.Ends.{end_where, condition_end}
 use Rattle.translation.specs.Rules.{plain}
 

@@ -20,8 +20,8 @@ use Rattle.formulas.specs.declared.Test.{Test}
 use Rattle.formulas.specs.declared.Test.TheVariants.{Equal, Less, Unequal, NotLess}
 use Rattle.formulas.specs.Codes.{row_of, kind_of, term_kind_of}
 use Rattle.formulas.specs.Decode.{Parsed, some, then, in_row, test_of, term_at, terms_at, formula_at}
-use Rattle.formulas.specs.Shapes.{shape_number, shape_variable, shape_calculation, shape_constant, shape_join}
-use Rattle.formulas.specs.Shapes.{shape_quantifier, shape_compare, shape_instance}
+use Rattle.formulas.proofs.Shapes.{shape_number, shape_variable, shape_calculation, shape_constant, shape_join}
+use Rattle.formulas.proofs.Shapes.{shape_quantifier, shape_compare, shape_instance}
 use Rattle.formulas.specs.Bodies.{body_at, is_body}
 use Rattle.reading.specs.Equations.{four_ranges, ranges_in, body_in, is_valid_head, equation_of}
 use Rattle.reading.proofs.Drafts.{EquationSound}

@@ -18,9 +18,9 @@ use Rattle.formulas.specs.declared.TermKind.TheVariants.{NoTerm, Number, Variabl
 use Rattle.formulas.specs.Codes.{Row, rows, no_row, row_of, kind_of, term_kind_of}
 use Rattle.formulas.specs.Decode.{Parsed, some, in_row, nth_term, test_of, term_at, terms_at, formula_at}
 use Rattle.formulas.specs.Bodies.{formula_of, is_body}
-use Rattle.formulas.specs.Shapes.{shape_no_term, shape_number, shape_variable, shape_calculation}
-use Rattle.formulas.specs.Shapes.{shape_no_formula, shape_constant, shape_join, shape_quantifier}
-use Rattle.formulas.specs.Shapes.{shape_compare, shape_instance}
+use Rattle.formulas.proofs.Shapes.{shape_no_term, shape_number, shape_variable, shape_calculation}
+use Rattle.formulas.proofs.Shapes.{shape_no_formula, shape_constant, shape_join, shape_quantifier}
+use Rattle.formulas.proofs.Shapes.{shape_compare, shape_instance}
 use Rattle.formulas.proofs.Decoded.{Every, unread, each, every_then, every_last, every_when, body_whole}
 use Rattle.spelling.specs.Spelled.{either_code, test_code, spelled_term, spelled_terms, spelled}
 use Rattle.spelling.specs.Stands.{Stands, moved, stands_nothing, before_one, both_parts, stands_alone}

@@ -1,7 +1,7 @@
 -- `checker::devashtor_replace` meets its contract.
 -- The reply of `replace`, as a word; no refusal names a line over 32,769.
 use Rattle.writing.proofs.Laws.{reply_low}
-use Rattle.replacer.specs.Order.{replacement_low}
+use Rattle.replacer.proofs.Order.{replacement_low}
 use Rattle.checker.proofs.ForC.{for_c}
 use Rattle.checker.proofs.devashtor_replace.Goals as goal
 

@@ -6,7 +6,7 @@ use lib.ListN.{get_or}
 use borrow.Author.Tests.{not-true, not-false}
 use Rattle.meaning.specs.Ranges.{fits}
 use Rattle.formulas.specs.Codes.{kind_of, operands_of}
-use Rattle.formulas.specs.Shapes.{formula_operands}
+use Rattle.formulas.proofs.Shapes.{formula_operands}
 use Rattle.formulas.specs.Tuples.{items}
 use Rattle.formulas.proofs.ByKind as law
 use Rattle.formulas.proofs.Fitting.{and_same}

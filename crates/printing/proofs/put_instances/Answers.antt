@@ -11,7 +11,7 @@ use Rattle.truth.specs.Bits.{bit_of}
 use Rattle.frames.specs.Frames.{line_of}
 use Rattle.frames.specs.PutLine.{Puts}
 use Rattle.printing.specs.Lines.{parameters_of, word_frame, word_lines, Readable}
-use Rattle.frames.specs.Written.{line_length}
+use Rattle.frames.proofs.Written.{line_length}
 use Rattle.frames.proofs.Stores.{line_then}
 use Rattle.printing.proofs.Stores.{lines_more}
 use native.Mathlib.Omega.{arith}

@@ -6,7 +6,7 @@ use lib.ListN.{get_or}
 use borrow.Author.Tests.{not-true, not-false}
 use Rattle.meaning.specs.Ranges.{term_range}
 use Rattle.formulas.specs.Codes.{term_kind_of, operands_of}
-use Rattle.formulas.specs.Shapes.{term_operands}
+use Rattle.formulas.proofs.Shapes.{term_operands}
 use Rattle.formulas.proofs.ByKind as law
 use Rattle.formulas.proofs.terms.+read_term.Goals as goal
 

@@ -8,14 +8,14 @@ use Rattle.std.proofs.Math.Path.{ap}
 use Rattle.reading.specs.Records.{reading}
 use Rattle.answers.specs.declared.Answer.{Answer}
 use Rattle.answers.specs.Answers.{refusal, checked}
-use Rattle.answers.specs.Demand1.{refusal_clear}
-use Rattle.answers.specs.Apart.{find_then_solve}
+use Rattle.answers.proofs.Demand1.{refusal_clear}
+use Rattle.answers.proofs.Apart.{find_then_solve}
 use Rattle.lending.specs.declared.Record.{Record}
 use Rattle.lending.specs.declared.FindAnswer.{FindAnswer}
 use Rattle.lending.specs.Records.{records_after, records_of}
 use Rattle.lending.specs.Records.{records_after_check, records_after_solve}
 use Rattle.lending.specs.Promises.{Found, Solved, Checked}
-use Rattle.lending.specs.Lent.{lent_after_find, records_counted}
+use Rattle.lending.proofs.Lent.{lent_after_find, records_counted}
 
 -- records that are filled, filled once more
 filled_again : (t : List ℕ) (records : List Record)

@@ -9,7 +9,7 @@ use Rattle.digits.specs.Digits.{in_small_letters}
 use Rattle.reading.specs.Letters.{reading_in_small}
 use Rattle.answers.specs.declared.Answer.{Answer}
 use Rattle.answers.specs.Answers.{checked, solved, table_after_check}
-use Rattle.answers.specs.Letters.{answer_in_small, table_in_small, solved_in_small}
+use Rattle.answers.proofs.Letters.{answer_in_small, table_in_small, solved_in_small}
 use Rattle.lending.specs.declared.Record.{Record}
 use Rattle.lending.specs.declared.ReadAnswer.{ReadAnswer}
 use Rattle.lending.specs.declared.FindAnswer.{FindAnswer}
