@@ -8,17 +8,18 @@ use std::fs::{read_dir, read_to_string, write};
 const PAGE: &str = "docs/PROMISES.md";
 const BEGIN: &str = "<!-- believed: begin -->\n";
 const END: &str = "<!-- believed: end -->\n";
-/// Their public theorems are the headlines, and those of every specs/OneReply. Of a file in proofs/ it is
+/// Their public theorems are the headlines, and those of every specs/OneReply. Of a file in BESIDE it is
 /// those that the page names: the others serve the proofs of the code.
-const HEADLINES: &str = "answers/specs/Demand1 answers/specs/Demand2 answers/specs/Demand3
-    frames/specs/RoundTrip reading/proofs/LineNumbers answers/specs/Samples answers/specs/Apart
-    lending/specs/Lent lending/specs/Promises lending/specs/Apart lending/specs/Letters checker/specs/Promises checker/specs/Apart
-    meaning/specs/Looser meaning/specs/Counterexamples meaning/specs/GoesRound printing/specs/Promise
+const HEADLINES: &str = "answers/proofs/Demand1 answers/proofs/Demand2 answers/proofs/Demand3
+    frames/proofs/RoundTrip reading/proofs/LineNumbers answers/proofs/Samples answers/proofs/Apart
+    lending/proofs/Lent lending/specs/Promises lending/proofs/Apart lending/proofs/Letters checker/specs/Promises checker/specs/Apart
+    meaning/proofs/Looser meaning/proofs/Counterexamples meaning/proofs/GoesRound printing/specs/Promise
     printing/proofs/Answered
-    translation/specs/Correct translation/specs/Sound translation/specs/Looser spelling/specs/ModelText
-    inputs/specs/Content translator/specs/Answers translator/specs/Printed translator/specs/Theorems replacer/specs/Order replacer/specs/Theorems
-    replacer/specs/Samples digits/proofs/Letters frames/specs/Letters reading/specs/Letters answers/specs/Letters
-    translator/specs/Letters replacer/specs/Letters checker/specs/Letters";
+    translation/proofs/Correct translation/proofs/Sound translation/proofs/Looser spelling/proofs/ModelText
+    inputs/proofs/Content translator/specs/Answers translator/specs/Printed translator/specs/Theorems replacer/proofs/Order replacer/proofs/Theorems
+    replacer/proofs/Samples digits/proofs/Letters frames/proofs/Letters reading/specs/Letters answers/proofs/Letters
+    translator/specs/Letters replacer/proofs/Letters checker/specs/Letters";
+const BESIDE: &str = "digits/proofs/Letters reading/proofs/LineNumbers printing/proofs/Answered";
 const LIBRARIES: &str = "std core mathlib lib mir Prim borrow native";
 const LANGUAGE: &str = "( ) { } [ ] ; , : = | ↦ → × λ ⌜ ⌝ _ ⊥ Type Unit tt abbrev unfoldable pub data record
     unfolding where let in elim absurd if then else struct enum ensures requires result now old new -> mut impl dyn
@@ -246,7 +247,7 @@ fn main() {
         let is_root = one_of(file, HEADLINES) || file.ends_with("/specs/OneReply") || file.contains("/src/");
         for item in source.items.iter().filter(|i| is_root && i.states) {
             let on_page = |end| [before, after].concat().contains(&format!("`{}{end}", item.name));
-            if !file.contains("/proofs/") || on_page(" :") || on_page("`") {
+            if !one_of(file, BESIDE) || on_page(" :") || on_page("`") {
                 open.extend(named(&sources, file, item, &item.statement));
             }
         }

@@ -1,8 +1,6 @@
 -- The sample models of document 01 that are marked P, from their texts: one table under one theorem.
 -- Computed from the definitions alone. Nothing of the laws is used, so a slip in a definition shows here.
-use Rattle.std.specs.Prelude.{ℕ, zero, suc, ◌+◌, ◌-◌, ◌≡◌, refl, cond, List, [], ◌∷◌, ◌++◌, map, eqb, ltb, length, take, drop, replicate}
-use Prim.Native.Char.{code}
-use Prim.Native.String.{String, len, char_at}
+use Rattle.std.specs.Prelude.{◌≡◌, refl, map}
 use Rattle.meaning.specs.Logic.{◌and◌, ◌or◌, ◌⇒◌, join, over}
 use Rattle.meaning.specs.Solution.{same, mem, all, every, some, least, greatest, solution}
 use Rattle.meaning.specs.Formulas.{sum, difference, value, holds}
@@ -23,8 +21,7 @@ use Rattle.reading.specs.Reading.{equation_refusal, start_refusal, frame_refusal
 use Rattle.reading.specs.Reading.{start_judged, finished}
 use Rattle.reading.specs.Reading.{frames_judged, text_refusal}
 use Rattle.truth.specs.Words.{from_digits, words, count_true}
-use Rattle.answers.specs.declared.Answer.{Answer}
-use Rattle.answers.specs.Answers.{list, truth_in, shown_values, refusal, verdict, judged, answer}
+use Rattle.answers.specs.Answers.{list, truth_in, shown_values, verdict, judged, answer}
 use Rattle.answers.specs.Answers.{table_after, checked, table_after_check}
 use Rattle.answers.specs.Answers.{is_found, list_answer, solved}
 use Rattle.answers.specs.Printed.{instance_lines, answer_lines, printed}

@@ -1,22 +1,10 @@
 -- Definitions that the theorems of `proofs/Apart` speak of.
 -- Each stands alone; what follows from them is there.
-use Rattle.std.specs.Prelude.{ℕ, ◌≤◌, ◌<◌, ◌≡◌, Bool, cond, List, [], map, ◌⊎◌, eqb, ltb, leb, length, take}
-use Rattle.std.proofs.Common.{arith, sym, subst, ◌∙◌, inl, inr, ltb-true, ltb-false, leb-true, leb-false, eqb-true}
-use Rattle.std.proofs.Math.Path.{refl, ap}
-use Rattle.std.proofs.Math.Bool.{true, false}
-use Rattle.std.proofs.Math.ListN.{length-map}
-use Rattle.std.proofs.Math.Seq.{take-append_seam}
-use Rattle.std.proofs.lemmas.Bool.{eqb-false}
-use Rattle.meaning.specs.Logic.{◌and◌, Is, never, eq→Is}
-use Rattle.meaning.specs.Solution.{same}
-use Rattle.meaning.proofs.Members.{same_eq, same_refl}
+use Rattle.std.specs.Prelude.{ℕ, ◌≤◌, ◌<◌, ◌≡◌, List, map, ◌⊎◌, length}
 use Rattle.meaning.specs.Words.{word}
 use Rattle.reading.specs.Reading.{text_refusal}
 use Rattle.answers.specs.declared.Answer.{Answer}
-use Rattle.answers.specs.Answers.{list, room_of, refusal, verdict, answer, table_after, checked}
-use Rattle.answers.specs.Answers.{table_after_check, is_found, list_answer, solved}
-use Rattle.answers.specs.Printed.{answer_lines, printed, printed_solved}
-use Rattle.answers.specs.Demand1.{◌exactly_when◌}
+use Rattle.answers.specs.Answers.{list, refusal, checked}
 
 -- the whole lent list is the reached list of the text's model, and has not over 512 words
 pub record TheList (t lent : List ℕ) : Type 0 where

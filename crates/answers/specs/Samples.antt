@@ -1,33 +1,16 @@
 -- Definitions that the theorems of `proofs/Samples` speak of.
 -- Each stands alone; what follows from them is there.
-use Rattle.std.specs.Prelude.{ℕ, zero, suc, ◌+◌, ◌-◌, ◌≡◌, refl, cond, List, [], ◌∷◌, ◌++◌, map, eqb, ltb, length, take, drop, replicate}
+use Rattle.std.specs.Prelude.{ℕ, zero, suc, ◌+◌, ◌-◌, cond, List, [], ◌∷◌, ◌++◌, map, eqb, ltb, length, take, drop, replicate}
 use Prim.Native.Char.{code}
 use Prim.Native.String.{String, len, char_at}
-use Rattle.meaning.specs.Logic.{◌and◌, ◌or◌, ◌⇒◌, join, over}
-use Rattle.meaning.specs.Solution.{same, mem, all, every, some, least, greatest, solution}
-use Rattle.meaning.specs.Formulas.{sum, difference, value, holds}
-use Rattle.meaning.specs.Models.{spread, in_range, system, meaning}
-use Rattle.meaning.specs.Simplification.{join_simplified, simplified}
-use Rattle.meaning.specs.Reach.{leaves, instances, body_of, next, fresh, explore, every_instance, reached}
-use Rattle.meaning.specs.Ranges.{all_ranges, term_range, arguments_fit, fits, within, typed}
+use Rattle.meaning.specs.Logic.{◌or◌}
+use Rattle.meaning.specs.Reach.{reached}
 use Rattle.meaning.specs.Words.{word}
-use Rattle.digits.specs.Digits.{bytes_of, characters}
-use Rattle.formulas.specs.Codes.{row_of}
-use Rattle.formulas.specs.Decode.{in_row, term_of_kind, term_at, formula_of_kind, formula_at}
-use Rattle.formulas.specs.Bodies.{body_at, is_body, is_fitting}
-use Rattle.frames.specs.Lines.{lines_of, all_digits, line_refusal}
-use Rattle.frames.specs.Frames.{frames_from, frames, line_of}
-use Rattle.reading.specs.Equations.{is_valid_head}
-use Rattle.reading.specs.Models.{frames_with, model_of}
-use Rattle.reading.specs.Reading.{equation_refusal, start_refusal, frame_refusal, instances_judged}
-use Rattle.reading.specs.Reading.{start_judged, finished}
-use Rattle.reading.specs.Reading.{frames_judged, text_refusal}
-use Rattle.truth.specs.Words.{from_digits, words, count_true}
 use Rattle.answers.specs.declared.Answer.{Answer}
-use Rattle.answers.specs.Answers.{list, truth_in, shown_values, refusal, verdict, judged, answer}
-use Rattle.answers.specs.Answers.{table_after, checked, table_after_check}
-use Rattle.answers.specs.Answers.{is_found, list_answer, solved}
-use Rattle.answers.specs.Printed.{instance_lines, answer_lines, printed}
+use Rattle.answers.specs.Answers.{refusal, answer}
+use Rattle.answers.specs.Answers.{checked, table_after_check}
+use Rattle.answers.specs.Answers.{solved}
+use Rattle.answers.specs.Printed.{printed}
 
 -- the bytes of a quoted text: n of them from place p on; all of them
 unfoldable pub bytes_from : String → ℕ → ℕ → List ℕ

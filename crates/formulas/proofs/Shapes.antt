@@ -6,7 +6,7 @@ use Rattle.std.proofs.Math.Path.{refl}
 use Rattle.std.proofs.Common.{eqb→eq}
 use Rattle.std.proofs.Math.Facts.{and_yes}
 use Rattle.meaning.specs.Formulas.{number, variable, calculated}
-use Rattle.meaning.specs.Formulas.{Formula, constant, joined, quantified, compared, instance}
+use Rattle.meaning.specs.Formulas.{constant, joined, quantified, compared}
 use Rattle.meaning.specs.Ranges.{is_range}
 use Rattle.formulas.specs.declared.Kind.{Kind}
 use Rattle.formulas.specs.declared.Kind.TheVariants.{NoFormula, Constant, Join}

@@ -1,22 +1,14 @@
 -- Definitions that the theorems of `proofs/Shapes` speak of.
 -- Each stands alone; what follows from them is there.
-use Rattle.std.specs.Prelude.{ℕ, zero, suc, ◌+◌, ◌-◌, ◌≡◌, Bool, true, false, cond, ◌&&◌, List, [], ◌∷◌, T, eqb, ltb, leb, get_or}
-use native.Mathlib.Omega.{arith}
-use Rattle.std.proofs.Math.Path.{refl}
-use Rattle.std.proofs.Common.{eqb→eq}
-use Rattle.std.proofs.Math.Facts.{and_yes}
-use Rattle.meaning.specs.Formulas.{number, variable, calculated}
-use Rattle.meaning.specs.Formulas.{Formula, constant, joined, quantified, compared, instance}
-use Rattle.meaning.specs.Ranges.{is_range}
+use Rattle.std.specs.Prelude.{ℕ, ◌+◌, Bool, true, List, eqb, leb, get_or}
+use Rattle.meaning.specs.Formulas.{Formula, instance}
 use Rattle.formulas.specs.declared.Kind.{Kind}
 use Rattle.formulas.specs.declared.Kind.TheVariants.{NoFormula, Constant, Join}
 use Rattle.formulas.specs.declared.Kind.TheVariants.{Quantifier, Compare, Instance}
 use Rattle.formulas.specs.declared.TermKind.{TermKind}
 use Rattle.formulas.specs.declared.TermKind.TheVariants.{NoTerm, Number, Variable, Calculation}
-use Rattle.formulas.specs.declared.Test.{Test}
-use Rattle.formulas.specs.Codes.{Row, rows, no_row, row_of, kind_of, term_kind_of, operands_of}
-use Rattle.formulas.specs.Decode.{Parsed, none, some, then, when, in_row, nth_term, test_of}
-use Rattle.formulas.specs.Decode.{term_of_kind, term_at, terms_at, formula_of_kind, formula_at}
+use Rattle.formulas.specs.Decode.{Parsed, some, then, when}
+use Rattle.formulas.specs.Decode.{terms_at}
 
 -- ---- how many operands a code has, by its kind
 abbrev pub formula_counts : Kind → ℕ → Bool

@@ -9,7 +9,7 @@ use Rattle.digits.specs.Digits.{is_digit, bytes_of, characters, small_letter, in
 use Rattle.digits.proofs.Pairs.{length_bytes, bytes_small}
 use Rattle.digits.proofs.Written.{digit_is_digit, bytes_read, pair_written, length_characters}
 use Rattle.frames.specs.Lines.{Line, lines_of, joined, all_digits, line_refusal}
-use Rattle.frames.specs.Frames.{Frame, Frames, frames_from, frames, line_of, text_of}
+use Rattle.frames.specs.Frames.{Frame, frames_from, frames, line_of, text_of}
 use Rattle.frames.specs.Whole.{Each, none, and, Right, framed}
 use Rattle.frames.proofs.Whole.{joined_lines, text_right, text_framed}
 use Rattle.frames.specs.Written.{written_line}

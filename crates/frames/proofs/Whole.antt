@@ -5,9 +5,9 @@ use Rattle.std.proofs.Common.{arith, sym, ap, ◌∙◌, true≢false, append_as
 use Rattle.std.proofs.Math.Bool.{and-eq-true_iff}
 use Rattle.std.proofs.lemmas.Bool.{eqb-false}
 use Rattle.meaning.specs.Logic.{cases}
-use Rattle.digits.specs.Digits.{is_digit, bytes_of}
+use Rattle.digits.specs.Digits.{is_digit}
 use Rattle.frames.specs.Lines.{Line, before, lines_of, joined, all_digits, line_refusal, place_of}
-use Rattle.frames.specs.Frames.{Frame, Frames, frames_from, frames}
+use Rattle.frames.specs.Frames.{frames_from, frames}
 use Rattle.frames.specs.Whole.{Each, Right, Whole, and, behind, framed, none}
 
 -- ---- some lines, and others behind them

@@ -1,13 +1,9 @@
 -- Definitions that the theorems of `proofs/Whole` speak of.
 -- Each stands alone; what follows from them is there.
-use Rattle.std.specs.Prelude.{ℕ, zero, suc, ◌+◌, ◌≤◌, ◌%◌, ◌≡◌, refl, Bool, true, false, cond, ◌&&◌, List, [], ◌∷◌, ◌++◌, eqb, leb, length, take}
-use Rattle.std.proofs.Common.{arith, sym, ap, ◌∙◌, true≢false, append_assoc, append-nil, length-append, eqb-true, eq-eqb, le-leb, leb-true}
-use Rattle.std.proofs.Math.Bool.{and-eq-true_iff}
-use Rattle.std.proofs.lemmas.Bool.{eqb-false}
-use Rattle.meaning.specs.Logic.{cases}
-use Rattle.digits.specs.Digits.{is_digit, bytes_of}
-use Rattle.frames.specs.Lines.{Line, before, lines_of, joined, all_digits, line_refusal, place_of}
-use Rattle.frames.specs.Frames.{Frame, Frames, frames_from, frames}
+use Rattle.std.specs.Prelude.{ℕ, ◌+◌, ◌≤◌, ◌%◌, ◌≡◌, true, List, [], ◌∷◌, ◌++◌, length}
+use Rattle.digits.specs.Digits.{bytes_of}
+use Rattle.frames.specs.Lines.{Line, all_digits}
+use Rattle.frames.specs.Frames.{Frame, Frames}
 
 -- each of some lines is so
 pub data Each (P : Line → Type 0) : List Line → Type 0 where

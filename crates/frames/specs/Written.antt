@@ -1,11 +1,8 @@
 -- Definitions that the theorems of `proofs/Written` speak of.
 -- Each stands alone; what follows from them is there.
-use Rattle.std.specs.Prelude.{ℕ, zero, suc, ◌+◌, ◌-◌, ◌*◌, ◌/◌, ◌%◌, ◌≡◌, refl, Bool, true, false, cond, List, [], ◌∷◌, ◌++◌, map, eqb, leb, length, take}
-use Rattle.std.proofs.Common.{arith, ap, ◌∙◌, length-append, ne_eqb}
-use Rattle.digits.specs.Digits.{digit_of, characters}
-use Rattle.digits.proofs.Written.{length_characters}
-use Rattle.frames.specs.Lines.{Line, lines_of, place_of, line_place}
-use Rattle.frames.specs.Frames.{line_of, text_of}
+use Rattle.std.specs.Prelude.{ℕ, ◌+◌, ◌*◌, true, List, [], ◌∷◌, length}
+use Rattle.digits.specs.Digits.{characters}
+use Rattle.frames.specs.Lines.{Line}
 
 -- two characters a byte and the end, for each line
 unfoldable pub text_size : List (List ℕ) → ℕ

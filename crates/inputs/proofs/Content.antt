@@ -1,6 +1,6 @@
 -- THEOREM: the frames of a text that is not refused are those of its process and formula, well-formed both.
 -- The frames that were judged so far are none, a `09` and some `07`, or those and an `08`.
-use Rattle.std.specs.Prelude.{ℕ, zero, suc, ◌≤◌, ◌<◌, ◌≡◌, true, false, not, cond, ◌&&◌, length, get_or, eqb, leb}
+use Rattle.std.specs.Prelude.{ℕ, zero, suc, ◌<◌, ◌≡◌, true, false, not, cond, ◌&&◌, length, get_or, eqb, leb}
 use Rattle.std.proofs.Common.{arith, sym, ap, ◌∙◌, length-append}
 use Rattle.std.proofs.Math.Path.{refl, ap₂}
 use Rattle.std.proofs.lemmas.Bool.{false≢true}

@@ -1,9 +1,7 @@
 -- The definitions tried on samples: inputs that are read as their process and formula, and others that are
 -- refused with 14 at the line of the first frame that breaks a rule. Each is computed.
-use Rattle.std.specs.Prelude.{ℕ, zero, suc, ◌+◌, ◌/◌, ◌%◌, ◌≤◌, ◌≡◌, refl, true, false, cond, List, [], ◌∷◌, ◌++◌, map, eqb, length, replicate}
+use Rattle.std.specs.Prelude.{ℕ, ◌+◌, ◌≤◌, ◌≡◌, refl, List, [], map, length}
 use Rattle.meaning.specs.Logic.{◌and◌, ◌or◌}
-use Rattle.meaning.specs.Formulas.{Term, number, variable, calculated, equal, less, unequal, not_less}
-use Rattle.meaning.specs.Formulas.{Formula, constant, compared}
 use Rattle.meaning.specs.Ranges.{sound_term, sound_terms, sound, term_range}
 use Rattle.meaning.specs.Ranges.{arguments_fit, within, all_ranges}
 use Rattle.frames.specs.Frames.{text_of}
@@ -12,9 +10,7 @@ use Rattle.frames.proofs.RoundTrip.{written_read}
 use Rattle.formulas.specs.Codes.{row_of}
 use Rattle.formulas.specs.Decode.{in_row, term_of_kind, term_at, formula_of_kind, formula_at}
 use Rattle.reading.specs.Reading.{Refusal, refused}
-use Rattle.translation.specs.Processes.{Summand, Process}
-use Rattle.translation.specs.Modal.{any_action, only, other_than, fixed_points}
-use Rattle.translation.specs.Modal.{Modal, truth, combined, after, fixed_point, of_fixed_point}
+use Rattle.translation.specs.Modal.{fixed_points}
 use Rattle.translation.specs.Rules.{plain, well_formed_summand, action_fits, among, well_formed_formula}
 use Rattle.inputs.specs.Modals.{actions_at, modal_of_code, modal_at}
 use Rattle.inputs.specs.Inputs.{is_process, summand_at, is_summand, is_formula, with_code}

@@ -1,25 +1,10 @@
 -- Definitions that the theorems of `proofs/Content` speak of.
 -- Each stands alone; what follows from them is there.
-use Rattle.std.specs.Prelude.{ℕ, zero, suc, ◌≤◌, ◌<◌, ◌≡◌, true, false, not, cond, ◌&&◌, length, get_or, eqb, leb}
-use Rattle.std.proofs.Common.{arith, sym, ap, ◌∙◌, length-append}
-use Rattle.std.proofs.Math.Path.{refl, ap₂}
-use Rattle.std.proofs.lemmas.Bool.{false≢true}
-use mathlib.Core.List.{List, [], ◌∷◌, ◌++◌, map, append-nil}
-use Rattle.std.proofs.Math.ListN.{length-map}
-use borrow.Author.Tests.{eqb-true, leb-true, le-leb}
-use Rattle.meaning.specs.Logic.{Is, is, and_i, eq→Is, cases}
-use Rattle.frames.specs.Frames.{Frame, frames}
-use Rattle.frames.specs.RoundTrip.{Writable}
-use Rattle.frames.proofs.RoundTrip.{read_writable}
-use Rattle.reading.specs.Reading.{refused}
-use Rattle.reading.proofs.Refusals.{&&-left, &&-right}
-use Rattle.translation.specs.Processes.{Process}
-use Rattle.translation.specs.Rules.{well_formed_summands, well_formed_process, well_formed_input}
-use Rattle.inputs.specs.Inputs.{ranges_of, initial_of, is_process, summand_in, is_summand}
-use Rattle.inputs.specs.Inputs.{modal_in, is_formula, with_code, first_frame, process_in, formula_in}
-use Rattle.inputs.specs.Inputs.{is_none, is_open, keeps_rules, and_frame, judged}
-use Rattle.inputs.specs.Inputs.{input_refusal, content_of, process_of, formula_of}
-use Rattle.inputs.specs.InputFrames.{summand_frame, input_frames}
+use Rattle.std.specs.Prelude.{ℕ, ◌≤◌, ◌≡◌, true, length, get_or, eqb}
+use mathlib.Core.List.{List, [], ◌∷◌, ◌++◌}
+use Rattle.inputs.specs.Inputs.{ranges_of, is_process, is_summand}
+use Rattle.inputs.specs.Inputs.{is_formula, first_frame}
+use Rattle.inputs.specs.Inputs.{is_none, is_open}
 
 -- summands of a process whose parameters have the ranges rs
 pub data Summands (rs : List ℕ) : List (List ℕ) → Type 0 where

@@ -1,24 +1,12 @@
 -- Definitions that the theorems of `proofs/Samples` speak of.
 -- Each stands alone; what follows from them is there.
-use Rattle.std.specs.Prelude.{ℕ, zero, suc, ◌+◌, ◌/◌, ◌%◌, ◌≤◌, ◌≡◌, refl, true, false, cond, List, [], ◌∷◌, ◌++◌, map, eqb, length, replicate}
-use Rattle.meaning.specs.Logic.{◌and◌, ◌or◌}
+use Rattle.std.specs.Prelude.{ℕ, zero, suc, ◌/◌, ◌%◌, true, false, cond, List, [], ◌∷◌, ◌++◌, eqb, replicate}
 use Rattle.meaning.specs.Formulas.{Term, number, variable, calculated, equal, less, unequal, not_less}
 use Rattle.meaning.specs.Formulas.{Formula, constant, compared}
-use Rattle.meaning.specs.Ranges.{sound_term, sound_terms, sound, term_range}
-use Rattle.meaning.specs.Ranges.{arguments_fit, within, all_ranges}
-use Rattle.frames.specs.Frames.{text_of}
-use Rattle.frames.specs.RoundTrip.{AllWritable, numbered}
-use Rattle.frames.proofs.RoundTrip.{written_read}
-use Rattle.formulas.specs.Codes.{row_of}
-use Rattle.formulas.specs.Decode.{in_row, term_of_kind, term_at, formula_of_kind, formula_at}
-use Rattle.reading.specs.Reading.{Refusal, refused}
+use Rattle.reading.specs.Reading.{Refusal}
 use Rattle.translation.specs.Processes.{Summand, Process}
-use Rattle.translation.specs.Modal.{any_action, only, other_than, fixed_points}
+use Rattle.translation.specs.Modal.{any_action, only, other_than}
 use Rattle.translation.specs.Modal.{Modal, truth, combined, after, fixed_point, of_fixed_point}
-use Rattle.translation.specs.Rules.{plain, well_formed_summand, action_fits, among, well_formed_formula}
-use Rattle.inputs.specs.Modals.{actions_at, modal_of_code, modal_at}
-use Rattle.inputs.specs.Inputs.{is_process, summand_at, is_summand, is_formula, with_code}
-use Rattle.inputs.specs.Inputs.{process_in, formula_in, keeps_rules, Judged, judged, input_refusal}
 
 -- the bytes of a number, as it is written in hexadecimal
 unfoldable pub bytes_before : ℕ → ℕ → List ℕ → List ℕ

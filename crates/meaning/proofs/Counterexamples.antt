@@ -1,11 +1,10 @@
 -- Document 01, "Slips to rule out": for each slip a small model, and the value that the slip would change.
 -- Computed from the definitions alone. Nothing of the laws is used, so a slip in a definition shows here.
-use Rattle.std.specs.Prelude.{ℕ, ◌≡◌, refl, true, false, List, [], ◌∷◌}
+use Rattle.std.specs.Prelude.{◌≡◌, refl, true, false, [], ◌∷◌}
 use Rattle.meaning.specs.Logic.{◌and◌, ◌or◌, ◌⇒◌, join}
 use Rattle.meaning.specs.Solution.{same, mem, all, every, some, least, greatest, solution}
-use Rattle.meaning.specs.Formulas.{number, variable, equal, less, joined, compared, instance}
-use Rattle.meaning.specs.Formulas.{Formula, value, holds}
-use Rattle.meaning.specs.Models.{ModelEquation, model_equation, Model}
+use Rattle.meaning.specs.Formulas.{instance}
+use Rattle.meaning.specs.Formulas.{value, holds}
 use Rattle.meaning.specs.Models.{spread, in_range, system, meaning}
 use Rattle.meaning.specs.Simplification.{join_simplified, simplified}
 use Rattle.meaning.specs.Reach.{leaves, instances, body_of, next, fresh, explore}

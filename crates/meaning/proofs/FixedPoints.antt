@@ -3,7 +3,7 @@
 use Rattle.std.specs.Prelude.{◌≡◌, refl, Bool, true, false, not, cond, List, ◌⊎◌}
 use Rattle.std.proofs.Common.{sym, ◌∙◌, inl, inr, ⊎_elim}
 use Rattle.std.proofs.Math.Path.{subst}
-use Rattle.meaning.specs.Logic.{◌and◌, Is, is, and_l, and_r, and_i, true_and}
+use Rattle.meaning.specs.Logic.{Is, is, and_l, and_r, and_i, true_and}
 use Rattle.meaning.specs.Logic.{imp_i, imp_e, dec, same_truth}
 use Rattle.meaning.specs.Order.{Below, up, down, implies, implied, upward, downward}
 use Rattle.meaning.specs.Order.{below_trans, below_antisym, below_of_eq, below_top}

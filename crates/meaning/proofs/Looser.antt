@@ -1,12 +1,12 @@
 -- Demand 3 over the meaning: loosening right sides, or making a least equation greatest, takes no truth away.
 -- What is no instance plays no part; so the looser model's system is above the first's among systems.
-use Rattle.std.specs.Prelude.{ℕ, suc, refl, Bool, true, false, List, [], ◌∷◌}
+use Rattle.std.specs.Prelude.{ℕ, suc, refl, true, false, List, ◌∷◌}
 use Rattle.std.proofs.Common.{sym, subst}
 use Rattle.meaning.specs.Logic.{◌and◌, Is, is, never, and_l, and_r, true_and}
 use Rattle.meaning.specs.Order.{up, implies, below_refl, below_trans}
 use Rattle.meaning.specs.Solution.{Args, Assign}
 use Rattle.meaning.specs.Formulas.{Formula, holds}
-use Rattle.meaning.specs.Models.{ModelEquation, model_equation, Model}
+use Rattle.meaning.specs.Models.{ModelEquation, Model}
 use Rattle.meaning.specs.Models.{in_range, system, nowhere, meaning}
 use Rattle.meaning.specs.Simplification.{simplified}
 use Rattle.meaning.specs.Reach.{Instance, instances}

@@ -5,7 +5,7 @@ use Rattle.std.proofs.Common.{ap₂, inl, inr, ⊎_elim, eqb→eq}
 use Rattle.std.proofs.Math.Dec.{eqb_refl}
 use Rattle.meaning.specs.Logic.{Is, is, never, Is→T, T→Is}
 use Rattle.meaning.specs.Logic.{and_l, and_r, and_i, or_l, or_r, or_e}
-use Rattle.meaning.specs.Solution.{Args, Set, same, mem}
+use Rattle.meaning.specs.Solution.{Args, same, mem}
 use Rattle.meaning.specs.Members.{Once}
 
 pub same_eq : (x y : Args) → Is (same x y) → x ≡ y

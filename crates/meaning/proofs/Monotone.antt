@@ -3,7 +3,7 @@
 use Rattle.std.specs.Prelude.{ℕ, suc, false, List, [], ◌∷◌, ◌++◌}
 use Rattle.meaning.specs.Logic.{Is, is, join, over_related}
 use Rattle.meaning.specs.Order.{Below, up, implies, below_refl, join_below}
-use Rattle.meaning.specs.Solution.{Args, Assign, solution}
+use Rattle.meaning.specs.Solution.{Assign, solution}
 use Rattle.meaning.specs.Formulas.{Formula, constant, joined, quantified, compared, instance}
 use Rattle.meaning.specs.Formulas.{values, holds}
 use Rattle.meaning.specs.Models.{Model, system}

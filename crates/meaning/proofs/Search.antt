@@ -5,9 +5,8 @@ use Rattle.std.proofs.Common.{arith, sym, subst, ◌∙◌, append_assoc, inl, i
 use Rattle.meaning.specs.Logic.{Is}
 use Rattle.meaning.specs.Solution.{mem}
 use Rattle.meaning.specs.Models.{Model}
-use Rattle.meaning.specs.Reach.{Instance, next, fresh, explore}
+use Rattle.meaning.specs.Reach.{Instance, next, explore}
 use Rattle.meaning.proofs.Members.{mem_head, mem_one, mem_nothing, mem_left, mem_right, mem_split}
-use Rattle.meaning.specs.Members.{Once}
 use Rattle.meaning.proofs.Members.{once_append}
 use Rattle.meaning.proofs.Fresh.{fresh_covers, fresh_in, fresh_new, fresh_once}
 use Rattle.meaning.specs.Search.{KeptBySteps, ReachedBy, Search, here, new, step}

@@ -3,11 +3,11 @@
 use Rattle.std.specs.Prelude.{ℕ, ◌<◌, ◌≡◌, refl, Bool, true, false, List, [], ◌∷◌, ◌++◌}
 use Rattle.std.proofs.Common.{arith, sym, ap, ap₂, ◌∙◌, ⊎_elim}
 use Rattle.meaning.specs.Logic.{◌and◌, ◌or◌, join, over, join_drops, join_makes, over_related}
-use Rattle.meaning.specs.Solution.{Set, Assign, mem}
+use Rattle.meaning.specs.Solution.{Set, Assign}
 use Rattle.meaning.specs.Formulas.{Formula, constant, joined, quantified, compared, instance, holds}
 use Rattle.meaning.specs.Simplification.{Tree, leaf, node, Simplified, decided, left}
 use Rattle.meaning.specs.Simplification.{join_simplified, simplified, tree_holds, simplified_holds}
-use Rattle.meaning.specs.Reach.{Instance, leaves, instances}
+use Rattle.meaning.specs.Reach.{leaves, instances}
 use Rattle.meaning.specs.Systems.{Same_on}
 use Rattle.meaning.specs.Members.{AllOf}
 use Rattle.meaning.proofs.Members.{mem_head, mem_nothing, mem_left, mem_right, mem_split}

@@ -13,7 +13,6 @@ use Rattle.meaning.specs.Ranges.{signatures, typed, well_formed}
 use Rattle.meaning.specs.Members.{AllOf}
 use Rattle.meaning.specs.Search.{new, KeptBySteps}
 use Rattle.meaning.proofs.Search.{explore_keeps, regroup}
-use Rattle.meaning.specs.Search.{Search}
 use Rattle.meaning.proofs.Search.{search_start, search_step}
 use Rattle.meaning.specs.Reached.{instance_count}
 use Rattle.meaning.proofs.Reached.{steps_typed, search_bound, search_finished}

@@ -4,8 +4,8 @@ use Rattle.std.specs.Prelude.{ℕ, ◌≡◌, refl, Bool, true, false, cond, Lis
 use Rattle.std.proofs.Common.{sym, subst, eqb→eq}
 use Rattle.meaning.specs.Logic.{◌and◌, Is, is, Is→T, and_l, and_r, and_i, true_and}
 use Rattle.meaning.specs.Order.{Below, up, implies, below_refl, below_trans, below_of_eq}
-use Rattle.meaning.specs.Solution.{Args, Set, Assign, Equation, put, mem, solution}
-use Rattle.meaning.specs.FixedPoints.{Ordered_on, Mono, Agree}
+use Rattle.meaning.specs.Solution.{Args, Set, Assign, Equation, put, solution}
+use Rattle.meaning.specs.FixedPoints.{Ordered_on, Mono}
 use Rattle.meaning.proofs.FixedPoints.{fix_order, least_below_greatest}
 use Rattle.meaning.specs.Systems.{AllRising, Depends_on, Implies_on, Keeps, Rising, Same_on, Under, everywhere, image, kept, no_equation, raised}
 

@@ -9,7 +9,7 @@ use Rattle.meaning.specs.Order.{below_refl, below_antisym}
 use Rattle.meaning.specs.Solution.{Args, Assign, Equation, mem, same, solution}
 use Rattle.meaning.specs.Reach.{Instance}
 use Rattle.meaning.specs.FixedPoints.{Agree}
-use Rattle.meaning.specs.Systems.{Same_on, equation, Under, no_equation, kept}
+use Rattle.meaning.specs.Systems.{Same_on, Under, no_equation, kept}
 use Rattle.meaning.proofs.Systems.{under}
 use Rattle.meaning.specs.Systems.{AllRising, AllDepend_on}
 use Rattle.meaning.proofs.Systems.{keeps}

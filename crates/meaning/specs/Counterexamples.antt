@@ -1,15 +1,9 @@
 -- Definitions that the theorems of `proofs/Counterexamples` speak of.
 -- Each stands alone; what follows from them is there.
-use Rattle.std.specs.Prelude.{ℕ, ◌≡◌, refl, true, false, List, [], ◌∷◌}
-use Rattle.meaning.specs.Logic.{◌and◌, ◌or◌, ◌⇒◌, join}
-use Rattle.meaning.specs.Solution.{same, mem, all, every, some, least, greatest, solution}
+use Rattle.std.specs.Prelude.{ℕ, true, false, List, [], ◌∷◌}
 use Rattle.meaning.specs.Formulas.{number, variable, equal, less, joined, compared, instance}
-use Rattle.meaning.specs.Formulas.{Formula, value, holds}
+use Rattle.meaning.specs.Formulas.{Formula}
 use Rattle.meaning.specs.Models.{ModelEquation, model_equation, Model}
-use Rattle.meaning.specs.Models.{spread, in_range, system, meaning}
-use Rattle.meaning.specs.Simplification.{join_simplified, simplified}
-use Rattle.meaning.specs.Reach.{leaves, instances, body_of, next, fresh, explore}
-use Rattle.meaning.specs.Reach.{every_instance, reached}
 
 abbrev pub least_equation : List ℕ → Formula → ModelEquation
 least_equation = model_equation false

@@ -1,6 +1,6 @@
 -- The frame of an equation with another right side: its head is as it was, and its body is the new one.
 -- What stands within the head is the same in both, and all that is read of a head stands within it.
-use Rattle.std.specs.Prelude.{ℕ, ◌+◌, ◌≤◌, ◌<◌, ◌≡◌, refl, true, cond, List, ◌++◌, ltb, length, get_or, take}
+use Rattle.std.specs.Prelude.{ℕ, ◌+◌, ◌≤◌, ◌<◌, ◌≡◌, refl, true, cond, List, ltb, length, get_or, take}
 use Rattle.std.proofs.Common.{arith, ap, ◌∙◌, length-append, length-take-le, get_or-take, drop_at, leb-true, le-leb, ltb-true}
 use Rattle.std.proofs.Math.ListN.{get_or-append}
 use Rattle.meaning.specs.Logic.{cases}

@@ -19,7 +19,7 @@ use Rattle.reading.specs.Reading.{Refusal, refused, frames_judged, text_refusal}
 use Rattle.reading.proofs.Drafts.{frame_of}
 use Rattle.reading.proofs.LineNumbers.{long_text_one}
 use Rattle.reading.proofs.WellFormed.{Passed, text_passed}
-use Rattle.replacer.specs.Replaced.{equation_frame, head_size, replaced_text}
+use Rattle.replacer.specs.Replaced.{replaced_text}
 use Rattle.replacer.specs.Heads.{frame_with}
 use Rattle.replacer.proofs.Judging.{no_body, a_body, line_refused, new_finished}
 use Rattle.replacer.specs.Standing.{Standing}

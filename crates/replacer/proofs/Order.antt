@@ -6,8 +6,6 @@ use Rattle.std.proofs.Math.Path.{refl}
 use borrow.Author.Tests.{eq-eqb, ne_eqb, eqb-true, eqb-false, lt-ltb, le-ltb, ltb-true, ltb-false, le-leb}
 use borrow.Author.Tests.{lt-leb}
 use Rattle.meaning.specs.Logic.{cases}
-use Rattle.frames.specs.Frames.{frames}
-use Rattle.reading.specs.Models.{equations_in}
 use Rattle.reading.specs.Reading.{Refusal, refused, text_refusal}
 use Rattle.reading.proofs.LineNumbers.{refusal_bounded}
 use Rattle.answers.specs.Demand1.{◌exactly_when◌}

@@ -2,7 +2,7 @@
 -- The lines before the equation's and those behind it are as they were; a text is its lines, put together.
 use Prim.Native.Nat.{ℕ, zero, suc, ◌+◌, ◌-◌, ◌*◌, ◌≤◌, ◌<◌}
 use Rattle.std.proofs.Common.{arith, ap₂, ◌∙◌, length-append, length-drop, take-append-drop, length-take-le, take_at, drop_at, drop-drop}
-use Rattle.std.specs.Prelude.{◌≡◌, true, get_or, set}
+use Rattle.std.specs.Prelude.{◌≡◌, true, set}
 use Rattle.std.proofs.Math.Path.{refl, sym, ap}
 use mathlib.Core.List.{List, [], ◌∷◌, ◌++◌, append_assoc}
 use Rattle.std.proofs.Math.ListN.{length, take, drop}

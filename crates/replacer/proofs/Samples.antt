@@ -1,7 +1,6 @@
 -- The edge cases of request 2026-01, from their texts: one table under one theorem.
 -- Computed from the definitions alone. Nothing of the laws is used, so a slip in a definition shows here.
-use Rattle.std.specs.Prelude.{ℕ, ◌≡◌, refl, cond, List, [], ◌∷◌, map, eqb, replicate}
-use Prim.Native.String.{String}
+use Rattle.std.specs.Prelude.{◌≡◌, refl, map}
 use Rattle.meaning.specs.Logic.{◌and◌}
 use Rattle.meaning.specs.Ranges.{all_ranges, term_range, arguments_fit, fits, within, typed}
 use Rattle.digits.specs.Digits.{bytes_of, characters}
@@ -12,7 +11,7 @@ use Rattle.frames.specs.Lines.{lines_of, joined, all_digits, line_refusal}
 use Rattle.frames.specs.Frames.{frames_from, frames}
 use Rattle.reading.specs.Equations.{is_valid_head}
 use Rattle.reading.specs.Models.{frames_with, model_of}
-use Rattle.reading.specs.Reading.{Refusal, refused, equation_refusal, start_refusal, frame_refusal}
+use Rattle.reading.specs.Reading.{equation_refusal, start_refusal, frame_refusal}
 use Rattle.reading.specs.Reading.{instances_judged, start_judged, finished, frames_judged, text_refusal}
 use Rattle.answers.specs.Samples.{bytes_from, bytes}
 use Rattle.replacer.specs.Replaced.{replaced_text, replacement_refusal}

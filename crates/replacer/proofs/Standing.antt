@@ -1,6 +1,6 @@
 -- Where an equation stands in a text that is read: the lines before its own, its own, and those behind it.
 -- The lines are gone through until so many equations are passed; what stands there is the equation's frame.
-use Rattle.std.specs.Prelude.{ℕ, zero, suc, ◌+◌, ◌≤◌, ◌<◌, ◌≡◌, refl, Bool, true, false, cond, List, [], ◌∷◌, ◌++◌, eqb, length, get_or}
+use Rattle.std.specs.Prelude.{ℕ, zero, suc, ◌+◌, ◌<◌, ◌≡◌, refl, Bool, true, false, cond, List, [], ◌∷◌, ◌++◌, eqb, length, get_or}
 use Rattle.std.proofs.Common.{arith, sym, ap, subst, ◌∙◌, eqb-true}
 use Rattle.std.proofs.lemmas.List.{get_or_at}
 use Rattle.meaning.specs.Logic.{cases}
@@ -14,7 +14,6 @@ use Rattle.reading.specs.Models.{frames_with, equations_in}
 use Rattle.reading.specs.Reading.{refused, text_refusal}
 use Rattle.reading.proofs.Drafts.{no_frame, frame_of}
 use Rattle.reading.proofs.WellFormed.{text_passed}
-use Rattle.replacer.specs.Replaced.{equation_frame}
 use Rattle.replacer.proofs.Judging.{end_passed, equations_split}
 use Rattle.replacer.specs.Standing.{Standing}
 

@@ -1,27 +1,15 @@
 -- Definitions that the theorems of `proofs/Judged` speak of.
 -- Each stands alone; what follows from them is there.
-use Rattle.std.specs.Prelude.{ℕ, ◌+◌, ◌≤◌, ◌<◌, ◌≡◌, Bool, true, false, List, [], ◌∷◌, ◌++◌, leb}
-use Rattle.std.proofs.Common.{arith, sym, ap, subst, ◌∙◌, leb-true, leb-false, le-leb}
-use Rattle.std.proofs.Math.Path.{refl}
+use Rattle.std.specs.Prelude.{ℕ, ◌+◌, List, leb}
 use Rattle.std.proofs.Math.Bool.{cond}
-use Rattle.std.proofs.Math.ListN.{length, length-append}
-use Rattle.meaning.specs.Logic.{cases}
+use Rattle.std.proofs.Math.ListN.{length}
 use Rattle.meaning.specs.Ranges.{signatures}
-use Rattle.frames.specs.Frames.{Frame, stopped, frames_from, frames}
-use Rattle.frames.specs.Whole.{and, framed}
-use Rattle.frames.proofs.Whole.{framed_append, each_joined, RightText, frames_behind}
-use Rattle.frames.proofs.Whole.{right_framed}
+use Rattle.frames.specs.Frames.{frames}
 use Rattle.formulas.specs.Bodies.{is_body, is_fitting}
 use Rattle.reading.specs.Equations.{ranges_in}
 use Rattle.reading.specs.Models.{model_of}
-use Rattle.reading.specs.Reading.{Refusal, refused, frames_judged, text_refusal}
-use Rattle.reading.proofs.Drafts.{frame_of}
-use Rattle.reading.proofs.LineNumbers.{long_text_one}
-use Rattle.reading.proofs.WellFormed.{Passed, text_passed}
+use Rattle.reading.specs.Reading.{Refusal, refused}
 use Rattle.replacer.specs.Replaced.{equation_frame, head_size, replaced_text}
-use Rattle.replacer.specs.Heads.{frame_with}
-use Rattle.replacer.specs.Standing.{Standing}
-use Rattle.replacer.specs.Result.{Small}
 
 -- "what 01's order gives for the resulting text": the first that the new right side gives
 unfoldable pub side_refusal : List ℕ → ℕ → List ℕ → Refusal

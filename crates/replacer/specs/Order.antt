@@ -1,17 +1,10 @@
 -- Definitions that the theorems of `proofs/Order` speak of.
 -- Each stands alone; what follows from them is there.
-use Rattle.std.specs.Prelude.{ℕ, ◌≤◌, ◌<◌, ◌≡◌, List, eqb, ltb, leb, length}
-use Rattle.std.proofs.Common.{arith, ap, leb-true, leb-false}
-use Rattle.std.proofs.Math.Path.{refl}
-use borrow.Author.Tests.{eq-eqb, ne_eqb, eqb-true, eqb-false, lt-ltb, le-ltb, ltb-true, ltb-false, le-leb}
-use borrow.Author.Tests.{lt-leb}
-use Rattle.meaning.specs.Logic.{cases}
+use Rattle.std.specs.Prelude.{ℕ, ◌≤◌, ◌<◌, ◌≡◌, List, length}
 use Rattle.frames.specs.Frames.{frames}
 use Rattle.reading.specs.Models.{equations_in}
 use Rattle.reading.specs.Reading.{Refusal, refused, text_refusal}
-use Rattle.reading.proofs.LineNumbers.{refusal_bounded}
-use Rattle.answers.specs.Demand1.{◌exactly_when◌}
-use Rattle.replacer.specs.Replaced.{replaced_text, replacement_refusal}
+use Rattle.replacer.specs.Replaced.{replaced_text}
 
 -- how many equations a text has
 abbrev pub count_in : List ℕ → ℕ

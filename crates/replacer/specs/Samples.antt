@@ -1,20 +1,9 @@
 -- Definitions that the theorems of `proofs/Samples` speak of.
 -- Each stands alone; what follows from them is there.
-use Rattle.std.specs.Prelude.{ℕ, ◌≡◌, refl, cond, List, [], ◌∷◌, map, eqb, replicate}
+use Rattle.std.specs.Prelude.{ℕ, cond, List, [], ◌∷◌, eqb, replicate}
 use Prim.Native.String.{String}
-use Rattle.meaning.specs.Logic.{◌and◌}
-use Rattle.meaning.specs.Ranges.{all_ranges, term_range, arguments_fit, fits, within, typed}
-use Rattle.digits.specs.Digits.{bytes_of, characters}
-use Rattle.formulas.specs.Codes.{row_of}
-use Rattle.formulas.specs.Decode.{in_row, term_of_kind, term_at, formula_of_kind, formula_at}
-use Rattle.formulas.specs.Bodies.{body_at, is_body, is_fitting}
-use Rattle.frames.specs.Lines.{lines_of, joined, all_digits, line_refusal}
-use Rattle.frames.specs.Frames.{frames_from, frames}
-use Rattle.reading.specs.Equations.{is_valid_head}
-use Rattle.reading.specs.Models.{frames_with, model_of}
-use Rattle.reading.specs.Reading.{Refusal, refused, equation_refusal, start_refusal, frame_refusal}
-use Rattle.reading.specs.Reading.{instances_judged, start_judged, finished, frames_judged, text_refusal}
-use Rattle.answers.specs.Samples.{bytes_from, bytes}
+use Rattle.reading.specs.Reading.{Refusal, refused}
+use Rattle.answers.specs.Samples.{bytes}
 use Rattle.replacer.specs.Replaced.{replaced_text, replacement_refusal}
 
 -- a text, an equation's number, the bytes of a new right side and the buffer's length; the refusal, and what

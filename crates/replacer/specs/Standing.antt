@@ -1,19 +1,13 @@
 -- Definitions that the theorems of `proofs/Standing` speak of.
 -- Each stands alone; what follows from them is there.
-use Rattle.std.specs.Prelude.{ℕ, zero, suc, ◌+◌, ◌≤◌, ◌<◌, ◌≡◌, refl, Bool, true, false, cond, List, [], ◌∷◌, ◌++◌, eqb, length, get_or}
-use Rattle.std.proofs.Common.{arith, sym, ap, subst, ◌∙◌, eqb-true}
-use Rattle.std.proofs.lemmas.List.{get_or_at}
-use Rattle.meaning.specs.Logic.{cases}
+use Rattle.std.specs.Prelude.{ℕ, ◌+◌, ◌≤◌, ◌≡◌, true, List, ◌∷◌, ◌++◌, length, get_or}
 use Rattle.digits.specs.Digits.{bytes_of}
 use Rattle.frames.specs.Lines.{Line, lines_of}
-use Rattle.frames.specs.Frames.{Frame, Frames, frames}
-use Rattle.frames.specs.Whole.{Each, and, Right, framed}
-use Rattle.frames.proofs.Whole.{each_parted, framed_append, text_right, text_framed}
+use Rattle.frames.specs.Frames.{frames}
+use Rattle.frames.specs.Whole.{Each, Right, framed}
 use Rattle.reading.specs.Equations.{is_valid_head}
-use Rattle.reading.specs.Models.{frames_with, equations_in}
-use Rattle.reading.specs.Reading.{refused, text_refusal}
-use Rattle.reading.proofs.Drafts.{no_frame, frame_of}
-use Rattle.reading.proofs.WellFormed.{text_passed}
+use Rattle.reading.specs.Models.{equations_in}
+use Rattle.reading.proofs.Drafts.{frame_of}
 use Rattle.replacer.specs.Replaced.{equation_frame}
 
 -- ---- equation e in a text that is not refused

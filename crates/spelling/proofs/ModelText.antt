@@ -18,7 +18,7 @@ use Rattle.meaning.specs.Ranges.{all_ranges, well_formed_equation, well_formed_e
 use Rattle.meaning.proofs.Typed.{well_formed_start, well_formed_count, well_formed_all, signatures_length}
 use Rattle.meaning.specs.Typed.{ranges_at}
 use Rattle.meaning.proofs.Typed.{within_length, typed_equation, ranges_count, ranges_sound}
-use Rattle.frames.specs.Frames.{Frame, frames, text_of}
+use Rattle.frames.specs.Frames.{Frame, frames}
 use Rattle.frames.specs.Written.{text_size}
 use Rattle.frames.proofs.Written.{text_length}
 use Rattle.frames.specs.RoundTrip.{Writable, AllWritable, numbered, all_read}

@@ -1,17 +1,14 @@
 -- Samples of a process and a formula, each with the model and the verdict that a plain reader of 02 gave.
 -- Computed from the definitions alone. Above each stands its text, strokes between the frames.
-use Rattle.std.specs.Prelude.{ℕ, ◌≡◌, refl, Bool, true, false, List, [], ◌∷◌, map}
+use Rattle.std.specs.Prelude.{◌≡◌, refl, map}
 use Rattle.meaning.specs.Logic.{◌and◌, ◌or◌, ◌⇒◌, join, over}
 use Rattle.meaning.specs.Solution.{same, mem, all, every, some, least, greatest, solution}
-use Rattle.meaning.specs.Formulas.{Term, number, variable, calculated, equal, less, unequal, not_less}
 use Rattle.meaning.specs.Formulas.{sum, difference, value, holds}
-use Rattle.meaning.specs.Formulas.{Formula, constant, joined, quantified, compared, instance}
-use Rattle.meaning.specs.Models.{model_equation, Model, spread, in_range, system, meaning}
+use Rattle.meaning.specs.Models.{spread, in_range, system, meaning}
 use Rattle.meaning.specs.Ranges.{sound_term, sound_terms, sound, term_range}
 use Rattle.meaning.specs.Ranges.{arguments_fit, within, all_ranges}
-use Rattle.translation.specs.Processes.{Summand, Process, any, leads, steps}
-use Rattle.translation.specs.Modal.{any_action, only, other_than, one_of}
-use Rattle.translation.specs.Modal.{Modal, truth, combined, after, fixed_point, of_fixed_point}
+use Rattle.translation.specs.Processes.{any, leads, steps}
+use Rattle.translation.specs.Modal.{one_of}
 use Rattle.translation.specs.Modal.{fixed_points, after_steps, satisfying, satisfies}
 use Rattle.translation.specs.Rules.{plain, well_formed_summand, well_formed_summands}
 use Rattle.translation.specs.Rules.{well_formed_process, action_fits, among}

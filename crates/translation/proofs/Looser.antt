@@ -1,9 +1,9 @@
 -- One summand more never takes a yes away from a formula without box: the steps there were are still there.
 -- The same of the two models, by the theorem on the translation.
-use Rattle.std.specs.Prelude.{ℕ, suc, ◌+◌, refl, Bool, List, [], ◌∷◌, ◌++◌}
+use Rattle.std.specs.Prelude.{ℕ, suc, ◌+◌, refl, List, [], ◌∷◌, ◌++◌}
 use Rattle.std.proofs.Math.Bool.{true, false}
 use Rattle.std.proofs.Common.{⊎_elim}
-use Rattle.meaning.specs.Logic.{◌and◌, Is, is, never, and_l, and_r, or_l, or_r, or_e}
+use Rattle.meaning.specs.Logic.{Is, is, never, and_l, and_r, or_l, or_r, or_e}
 use Rattle.meaning.specs.Order.{Below, up, implies, below_refl, join_below}
 use Rattle.meaning.specs.Solution.{Args, Assign, put}
 use Rattle.meaning.specs.Models.{nowhere, meaning}

@@ -1,6 +1,6 @@
 -- What the quantifiers over a summand's own variables say, and formulas joined in a row.
 -- "For all" is the negation of "for some" of the negated: `turned` lets one law speak of both.
-use Rattle.std.specs.Prelude.{ℕ, zero, suc, ◌+◌, ◌≤◌, ◌<◌, ◌≡◌, refl, Bool, true, false, not, List, [], ◌∷◌, ◌++◌}
+use Rattle.std.specs.Prelude.{ℕ, zero, suc, ◌+◌, ◌≤◌, ◌<◌, ◌≡◌, refl, Bool, true, false, List, [], ◌∷◌, ◌++◌}
 use Rattle.std.proofs.Common.{arith, sym, ◌∙◌, ap, ap₂, append-nil, append_assoc, ⊎_elim, ltb→lt, lt→ltb}
 use Rattle.std.proofs.Math.Decide.{ℕ_discrete}
 use Rattle.meaning.specs.Logic.{◌and◌, ◌or◌, join, over, Is, is, never, Is→T, T→Is}

@@ -26,7 +26,6 @@ use Rattle.translation.proofs.Quantifiers.{turned_none, join_turned, some_values
 use Rattle.translation.proofs.Quantifiers.{holds_quantifiers, holds_joined_all}
 use Rattle.translation.specs.Steps.{by_values, by_summand, by_summands}
 use Rattle.translation.proofs.Steps.{after_steps_by_summands}
-use Rattle.translation.specs.States.{Ready}
 use Rattle.translation.proofs.States.{ready_named, ready_fitting, start_ready}
 use Rattle.translation.proofs.States.{then_ready, more_in_reach}
 use Rattle.translation.proofs.Core.{side}

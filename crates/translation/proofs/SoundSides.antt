@@ -2,7 +2,7 @@
 -- Terms stay in reach and in range through a step, and each instance has the process's parameters.
 use Prim.Native.Nat.{ℕ, suc, ◌+◌, ◌≤◌, ◌<◌}
 use native.Mathlib.Omega.{arith}
-use Rattle.std.specs.Prelude.{◌≡◌, Bool, cond, get_or}
+use Rattle.std.specs.Prelude.{◌≡◌, Bool, cond}
 use Rattle.std.proofs.Math.Bool.{true, false}
 use mathlib.Core.List.{List, [], ◌∷◌, ◌++◌, map, append-nil, append_assoc}
 use Rattle.std.proofs.Math.ListN.{length, length-append}

@@ -1,13 +1,13 @@
 -- A diamond over all states and actions is one over the matching summands' own variables, and so is a box.
 -- By the first summand and then the rest; a box is the negation of a diamond to the other states.
-use Rattle.std.specs.Prelude.{ℕ, ◌<◌, ◌≡◌, refl, Bool, ◌⊎◌}
+use Rattle.std.specs.Prelude.{ℕ, ◌≡◌, refl, Bool, ◌⊎◌}
 use Rattle.std.proofs.Common.{arith, sym, subst, ◌∙◌, ap₂, inl, inr, eqb→eq}
 use Rattle.std.proofs.Math.Path.{ap}
 use Rattle.std.proofs.Math.Bool.{true, false}
 use mathlib.Core.List.{List, [], ◌∷◌, ◌++◌}
 use Rattle.std.proofs.Math.Logic.{⊎_elim}
 use Rattle.std.proofs.Math.Dec.{eqb_refl}
-use Rattle.meaning.specs.Logic.{◌and◌, ◌or◌, ◌⇒◌, join, over, Is, is, never, Is→T, T→Is}
+use Rattle.meaning.specs.Logic.{◌and◌, ◌⇒◌, join, over, Is, is, never, Is→T, T→Is}
 use Rattle.meaning.specs.Logic.{and_l, and_r, and_i, or_l, or_r, or_e, same_truth}
 use Rattle.meaning.specs.Order.{Below, up, implies}
 use Rattle.meaning.specs.Solution.{Args, Set, mem, all}

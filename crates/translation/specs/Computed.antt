@@ -1,26 +1,16 @@
 -- Definitions that the theorems of `proofs/Computed` speak of.
 -- Each stands alone; what follows from them is there.
-use Rattle.std.specs.Prelude.{ℕ, ◌≡◌, refl, Bool, true, false, List, [], ◌∷◌, map}
-use Rattle.meaning.specs.Logic.{◌and◌, ◌or◌, ◌⇒◌, join, over}
-use Rattle.meaning.specs.Solution.{same, mem, all, every, some, least, greatest, solution}
+use Rattle.std.specs.Prelude.{ℕ, Bool, true, false, List, [], ◌∷◌}
 use Rattle.meaning.specs.Formulas.{Term, number, variable, calculated, equal, less, unequal, not_less}
-use Rattle.meaning.specs.Formulas.{sum, difference, value, holds}
 use Rattle.meaning.specs.Formulas.{Formula, constant, joined, quantified, compared, instance}
-use Rattle.meaning.specs.Models.{model_equation, Model, spread, in_range, system, meaning}
-use Rattle.meaning.specs.Ranges.{sound_term, sound_terms, sound, term_range}
-use Rattle.meaning.specs.Ranges.{arguments_fit, within, all_ranges}
-use Rattle.translation.specs.Processes.{Summand, Process, any, leads, steps}
-use Rattle.translation.specs.Modal.{any_action, only, other_than, one_of}
+use Rattle.meaning.specs.Models.{model_equation, Model, meaning}
+use Rattle.translation.specs.Processes.{Summand, Process}
+use Rattle.translation.specs.Modal.{any_action, only, other_than}
 use Rattle.translation.specs.Modal.{Modal, truth, combined, after, fixed_point, of_fixed_point}
-use Rattle.translation.specs.Modal.{fixed_points, after_steps, satisfying, satisfies}
-use Rattle.translation.specs.Rules.{plain, well_formed_summand, well_formed_summands}
-use Rattle.translation.specs.Rules.{well_formed_process, action_fits, among}
-use Rattle.translation.specs.Rules.{well_formed_formula, well_formed_input}
-use Rattle.translation.specs.Translation.{substituted_term, substituted, opposite, negated, guard}
-use Rattle.translation.specs.Translation.{quantifiers, variables_from, matching, joined_all}
-use Rattle.translation.specs.Translation.{after_summand, right_side, equations}
-use Rattle.translation.specs.Translation.{begins_with_fixed_point, translated}
-use Rattle.translation.specs.Translation.{four_quantifiers, each_four_quantifiers}
+use Rattle.translation.specs.Modal.{satisfies}
+use Rattle.translation.specs.Rules.{well_formed_input}
+use Rattle.translation.specs.Translation.{translated}
+use Rattle.translation.specs.Translation.{each_four_quantifiers}
 
 -- a process and a formula, the model that they give, and whether the start state satisfies the formula
 pub record Sample : Type 0 where

@@ -1,20 +1,11 @@
 -- Definitions that the theorems of `proofs/Looser` speak of.
 -- Each stands alone; what follows from them is there.
-use Rattle.std.specs.Prelude.{ℕ, suc, ◌+◌, refl, Bool, List, [], ◌∷◌, ◌++◌}
+use Rattle.std.specs.Prelude.{ℕ, Bool, List}
 use Rattle.std.proofs.Math.Bool.{true, false}
-use Rattle.std.proofs.Common.{⊎_elim}
-use Rattle.meaning.specs.Logic.{◌and◌, Is, is, never, and_l, and_r, or_l, or_r, or_e}
-use Rattle.meaning.specs.Order.{Below, up, implies, below_refl, join_below}
-use Rattle.meaning.specs.Solution.{Args, Assign, put}
-use Rattle.meaning.specs.Models.{nowhere, meaning}
-use Rattle.meaning.proofs.FixedPoints.{fix_order}
-use Rattle.meaning.specs.Systems.{everywhere, Implies_on}
-use Rattle.meaning.proofs.Systems.{put_on}
-use Rattle.translation.specs.Processes.{Summand, Process, states, steps}
+use Rattle.meaning.specs.Logic.{◌and◌, Is}
+use Rattle.meaning.specs.Solution.{Args}
+use Rattle.translation.specs.Processes.{Summand, Process, steps}
 use Rattle.translation.specs.Modal.{Modal, truth, combined, after, fixed_point, of_fixed_point}
-use Rattle.translation.specs.Modal.{fixed_points, satisfying, satisfies}
-use Rattle.translation.specs.Rules.{well_formed_input}
-use Rattle.translation.specs.Translation.{translated}
 
 -- no `30` stands in the formula
 unfoldable pub no_box : Modal → Bool

@@ -1,16 +1,9 @@
 -- Definitions that the theorems of `proofs/Quantifiers` speak of.
 -- Each stands alone; what follows from them is there.
-use Rattle.std.specs.Prelude.{ℕ, zero, suc, ◌+◌, ◌≤◌, ◌<◌, ◌≡◌, refl, Bool, true, false, not, List, [], ◌∷◌, ◌++◌}
-use Rattle.std.proofs.Common.{arith, sym, ◌∙◌, ap, ap₂, append-nil, append_assoc, ⊎_elim, ltb→lt, lt→ltb}
-use Rattle.std.proofs.Math.Decide.{ℕ_discrete}
-use Rattle.meaning.specs.Logic.{◌and◌, ◌or◌, join, over, Is, is, never, Is→T, T→Is}
-use Rattle.meaning.specs.Logic.{and_l, and_r, and_i, or_l, or_r, or_e, join_drops, over_related}
-use Rattle.meaning.specs.Solution.{Args, Set, Assign, mem}
-use Rattle.meaning.specs.Formulas.{Formula, holds}
+use Rattle.std.specs.Prelude.{ℕ, ◌+◌, ◌≤◌, ◌<◌, Bool, true, false, not, List, [], ◌∷◌}
+use Rattle.meaning.specs.Logic.{join, over, Is}
+use Rattle.meaning.specs.Solution.{Args, Set, mem}
 use Rattle.meaning.specs.Ranges.{within}
-use Rattle.meaning.proofs.Members.{mem_head, mem_tail, mem_cases, mem_nothing}
-use Rattle.translation.specs.Processes.{any}
-use Rattle.translation.specs.Translation.{quantifiers, joined_all}
 
 -- the other truth value where `all` is true, the same one where it is false
 unfoldable pub turned : Bool → Bool → Bool

@@ -1,26 +1,14 @@
 -- Definitions that the theorems of `proofs/SoundSides` speak of.
 -- Each stands alone; what follows from them is there.
-use Prim.Native.Nat.{ℕ, suc, ◌+◌, ◌≤◌, ◌<◌}
-use native.Mathlib.Omega.{arith}
-use Rattle.std.specs.Prelude.{◌≡◌, Bool, cond, get_or}
-use Rattle.std.proofs.Math.Bool.{true, false}
-use mathlib.Core.List.{List, [], ◌∷◌, ◌++◌, map, append-nil, append_assoc}
-use Rattle.std.proofs.Math.ListN.{length, length-append}
-use Rattle.std.proofs.Common.{le→leb, lt→ltb}
-use Rattle.meaning.specs.Logic.{Is, is, never, T→Is, and_l, and_r, and_i}
-use Rattle.meaning.specs.Formulas.{Term, Formula, constant, joined, quantified, compared, instance}
-use Rattle.meaning.specs.Ranges.{sound, fits, all_ranges}
-use Rattle.translation.specs.Processes.{Summand, Process}
-use Rattle.translation.specs.Modal.{Actions, one_of, fixed_points}
-use Rattle.translation.specs.Modal.{Modal, truth, combined, after, fixed_point, of_fixed_point}
-use Rattle.translation.specs.Rules.{plain, well_formed_summand, well_formed_summands}
-use Rattle.translation.specs.Rules.{well_formed_process, well_formed_formula}
-use Rattle.translation.specs.Translation.{substituted, negated, guard, quantifiers}
-use Rattle.translation.specs.Translation.{matching, joined_all, after_summand, right_side}
+use Prim.Native.Nat.{ℕ, ◌+◌, ◌<◌}
+use Rattle.std.specs.Prelude.{◌≡◌, get_or}
+use mathlib.Core.List.{List, []}
+use Rattle.std.proofs.Math.ListN.{length}
+use Rattle.meaning.specs.Logic.{Is}
+use Rattle.meaning.specs.Formulas.{Term, Formula}
+use Rattle.meaning.specs.Ranges.{sound, fits}
+use Rattle.translation.specs.Processes.{Process}
 use Rattle.translation.specs.Translation.{four_quantifiers}
-use Rattle.translation.specs.RuleLaws.{own_ranges, condition_plain, condition_sound}
-use Rattle.translation.specs.RuleLaws.{first_summand, later_summands, summands_formed, parameter_count}
-use Rattle.translation.specs.RuleLaws.{Around}
 use Rattle.translation.specs.States.{Ready}
 
 -- what 6 and 7 leave of a formula: the variables in reach have the ranges vs, q quantifiers are around, and

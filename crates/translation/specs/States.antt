@@ -1,16 +1,9 @@
 -- Definitions that the theorems of `proofs/States` speak of.
 -- Each stands alone; what follows from them is there.
-use Rattle.std.specs.Prelude.{ℕ, zero, suc, ◌+◌, ◌≤◌, ◌<◌, ◌≡◌, refl, List, [], ◌∷◌, ◌++◌, length, get_or}
-use Rattle.std.proofs.Common.{arith, ap, append_assoc, length-append, leb→le, le→leb, ltb→lt, lt→ltb}
-use Rattle.std.proofs.Math.ListN.{get_or-append}
-use Rattle.std.proofs.Math.Seq.{get_or-append_seam}
-use Rattle.meaning.specs.Logic.{Is, is, never, Is→T, T→Is, and_l, and_r, and_i}
-use Rattle.meaning.specs.Formulas.{Term, number, variable, calculated}
-use Rattle.meaning.specs.Ranges.{sound_term, sound_terms, term_range, arguments_fit}
-use Rattle.translation.specs.Processes.{Summand, Process}
-use Rattle.translation.specs.Rules.{well_formed_summand}
-use Rattle.translation.specs.Translation.{substituted_term, substituted_terms, variables_from, reach}
-use Rattle.translation.specs.RuleLaws.{next_sound, next_fits}
+use Rattle.std.specs.Prelude.{ℕ, ◌≤◌, List, [], ◌∷◌, length}
+use Rattle.meaning.specs.Logic.{Is}
+use Rattle.meaning.specs.Formulas.{Term}
+use Rattle.meaning.specs.Ranges.{sound_term, term_range}
 
 -- a term for a parameter of range p, and terms for parameters of the ranges ps, where the variables in reach
 -- have the ranges vs

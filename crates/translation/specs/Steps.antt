@@ -1,28 +1,14 @@
 -- Definitions that the theorems of `proofs/Steps` speak of.
 -- Each stands alone; what follows from them is there.
-use Rattle.std.specs.Prelude.{ℕ, ◌<◌, ◌≡◌, refl, Bool, ◌⊎◌}
-use Rattle.std.proofs.Common.{arith, sym, subst, ◌∙◌, ap₂, inl, inr, eqb→eq}
-use Rattle.std.proofs.Math.Path.{ap}
-use Rattle.std.proofs.Math.Bool.{true, false}
+use Rattle.std.specs.Prelude.{ℕ, ◌<◌, Bool}
+use Rattle.std.proofs.Math.Bool.{false}
 use mathlib.Core.List.{List, [], ◌∷◌, ◌++◌}
-use Rattle.std.proofs.Math.Logic.{⊎_elim}
-use Rattle.std.proofs.Math.Dec.{eqb_refl}
-use Rattle.meaning.specs.Logic.{◌and◌, ◌or◌, ◌⇒◌, join, over, Is, is, never, Is→T, T→Is}
-use Rattle.meaning.specs.Logic.{and_l, and_r, and_i, or_l, or_r, or_e, same_truth}
-use Rattle.meaning.specs.Order.{Below, up, implies}
-use Rattle.meaning.specs.Solution.{Args, Set, mem, all}
+use Rattle.meaning.specs.Logic.{◌and◌, ◌or◌, Is}
+use Rattle.meaning.specs.Solution.{Args, Set, mem}
 use Rattle.meaning.specs.Formulas.{values, holds}
 use Rattle.meaning.specs.Models.{in_range, nowhere}
-use Rattle.meaning.specs.Ranges.{within}
-use Rattle.meaning.proofs.Members.{same_eq, same_refl}
-use Rattle.meaning.specs.FixedPoints.{Ordered_on}
-use Rattle.meaning.proofs.InRange.{within_mem, mem_within}
-use Rattle.translation.specs.Processes.{Summand, Process, states, any, leads, steps}
-use Rattle.translation.specs.Modal.{Actions, one_of, after_steps}
-use Rattle.translation.specs.Rules.{well_formed_summands, well_formed_process}
-use Rattle.translation.specs.RuleLaws.{action_small, first_summand, later_summands, summands_formed}
-use Rattle.translation.specs.RuleLaws.{next_within}
-use Rattle.translation.specs.Quantifiers.{turned}
+use Rattle.translation.specs.Processes.{Summand, Process, steps}
+use Rattle.translation.specs.Modal.{Actions, one_of}
 use Rattle.translation.specs.Quantifiers.{some_values}
 
 -- a diamond by one summand, and by those of a list that match

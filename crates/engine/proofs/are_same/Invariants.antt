@@ -1,13 +1,8 @@
 -- `engine::are_same` meets its contract: lists of one length with the same word at each place are equal.
 -- Before turn i the words below i are the same.
 use Prim.Native.Nat.{ℕ, ◌≤◌, ◌<◌, ◌-◌}
-use mathlib.Core.Path.{◌≡◌, ap}
-use mathlib.Core.List.{List}
-use native.Mathlib.Omega.{arith}
+use mathlib.Core.Path.{◌≡◌}
 use lib.ListN.{length, get_or}
-use lib.Seq.{ext_get_or}
-use borrow.Author.Count.{below_none, below_more}
-use Rattle.engine.proofs.SameWords.{equal_same, unequal_same}
 use Rattle.engine.proofs.are_same.Given as goal
 
 abbrev pub invariant-loop-i : goal.invariant-loop-i

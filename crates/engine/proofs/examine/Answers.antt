@@ -2,7 +2,6 @@
 -- What is read is the reading of the text; the rest is a law of `Examining`.
 use mathlib.Core.Path.{refl}
 use Rattle.engine.proofs.Examining.{from_text, examined_refused, examined_judged}
-use borrow.Author.Rules.{rules}
 use Rattle.engine.proofs.examine.Goals as goal
 
 pub returns-then-number-ne0 : goal.returns-then-number-ne0

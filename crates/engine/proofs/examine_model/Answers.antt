@@ -9,7 +9,6 @@ use Rattle.truth.proofs.Bits.{zeros_none}
 use Rattle.instances.specs.Graph.{graph_words}
 use Rattle.engine.specs.Examined.{ReadFrom}
 use Rattle.engine.proofs.Examining.{Searched, inside, examined_so, refused_so, no_room}
-use borrow.Author.Rules.{rules}
 use Rattle.engine.proofs.examine_model.Goals as goal
 
 -- as many words as were found can be lent

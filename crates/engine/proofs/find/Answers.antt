@@ -1,7 +1,6 @@
 -- Finding in a whole text: refused as reading says, or found.
 -- What is read is the reading of the text; the rest is a law of `Examining`.
 use Rattle.engine.proofs.Examining.{from_text, counted_refused, examined_judged}
-use borrow.Author.Rules.{rules}
 use Rattle.engine.proofs.find.Goals as goal
 
 pub returns-then-number-ne0 : goal.returns-then-number-ne0

@@ -1,11 +1,10 @@
 -- The reached instances of a model that was read: prepared, then found.
 -- What was found is a law's one hypothesis; whether it went over the room decides which law.
 use Prim.Native.Nat.{ℕ}
-use mathlib.Core.List.{List, []}
+use mathlib.Core.List.{List}
 use lib.ListN.{replicate}
 use Rattle.engine.specs.Examined.{counted, ReadFrom}
 use Rattle.engine.proofs.Examining.{Searched, too_many, counted_so}
-use borrow.Author.Rules.{rules}
 use Rattle.engine.proofs.find_model.Goals as goal
 
 pub returns-then-found : goal.returns-then-found

@@ -1,6 +1,5 @@
 -- The verdict over a set: its first instance, and the count of all.
 -- Each field is what a callee gives.
-use borrow.Author.Rules.{rules}
 use mathlib.Core.Path.{refl}
 use Rattle.engine.proofs.Starting.{as_byte}
 use Rattle.engine.proofs.judge.Goals as goal

@@ -4,7 +4,6 @@ use Prim.Native.Nat.{ℕ}
 use mathlib.Core.Path.{refl}
 use lib.ListN.{length-replicate}
 use Rattle.engine.proofs.Examining.{from_text, solved_refused, examined_solved}
-use borrow.Author.Rules.{rules}
 use Rattle.engine.proofs.solve.Goals as goal
 
 pub returns-then-refused-ne0 : goal.returns-then-refused-ne0
