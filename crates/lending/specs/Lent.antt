@@ -1,24 +1,10 @@
 -- Definitions that the theorems of `proofs/Lent` speak of.
 -- Each stands alone; what follows from them is there.
-use Rattle.std.specs.Prelude.{ℕ, ◌≤◌, ◌≡◌, Bool, cond, List, ◌++◌, take}
-use native.Mathlib.Omega.{arith}
-use Rattle.std.proofs.Math.Path.{refl}
-use Rattle.std.proofs.Common.{◌∙◌, length-take-le}
-use Rattle.std.proofs.Math.Bool.{true, false}
-use Rattle.std.proofs.Math.Dec.{eqb, ltb}
-use Rattle.std.proofs.Math.ListN.{length, drop, length-append, length-drop}
-use Rattle.std.proofs.lemmas.List.{length-map}
-use borrow.Author.Tests.{eqb-true, eqb-false, ltb-false}
+use Rattle.std.specs.Prelude.{ℕ, ◌≡◌, List, ◌++◌}
+use Rattle.std.proofs.Math.ListN.{length, drop}
 use Rattle.reading.specs.Records.{reading}
-use Rattle.reading.proofs.Finishing.{few, eight_equations}
-use Rattle.reading.proofs.WellFormed.{reading_drafted}
-use Rattle.answers.specs.Answers.{checked, solved}
-use Rattle.answers.proofs.Demand1.{verdict_given}
-use Rattle.answers.proofs.Apart.{solving_given}
 use Rattle.lending.specs.declared.Record.{Record}
-use Rattle.lending.specs.declared.ReadAnswer.{ReadAnswer}
-use Rattle.lending.specs.Records.{record_of, records_of, read_answer, find_answer, records_after}
-use Rattle.lending.specs.Records.{records_after_read, records_after_check, records_after_solve}
+use Rattle.lending.specs.Records.{records_of}
 
 -- what an operation that answers `number` to the text t leaves of the records lent
 pub record Lent (t : List ℕ) (records : List Record) (number : ℕ) (left : List Record) : Type 0 where
