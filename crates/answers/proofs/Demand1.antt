@@ -4,7 +4,8 @@
 use Rattle.std.specs.Prelude.{ℕ, ◌≤◌, ◌<◌, ◌≡◌, Bool, cond, List, ◌++◌, map, eqb, ltb, take, drop}
 use native.Mathlib.Omega.{arith}
 use Rattle.std.proofs.Math.Path.{refl, ap}
-use Rattle.std.proofs.Common.{sym, ◌∙◌, length-take-le, take_all, ltb-true, ltb-false, leb-true, leb-false, eqb-true, lt-ltb, le-ltb}
+use Rattle.std.proofs.Common.{sym, ◌∙◌, length-take-le, take_all, ltb-true, ltb-false, leb-true, leb-false, eqb-true, lt-ltb}
+use Rattle.std.proofs.Common.{le-ltb}
 use Rattle.std.proofs.Math.Bool.{true, false}
 use Rattle.std.proofs.Math.Dec.{leb}
 use Rattle.std.proofs.Math.ListN.{length, length-take}

@@ -2,7 +2,8 @@
 -- of refusal", "What is lent", "Meaning and reach"; request 2026-05.
 -- Everything is a function of the text and of the lengths lent; the order of the refusals is the order of the
 -- tests.
-use Rattle.std.specs.Prelude.{ℕ, min, Bool, false, cond, List, [], ◌∷◌, ◌++◌, map, eqb, ltb, leb, length, take, drop, replicate}
+use Rattle.std.specs.Prelude.{ℕ, min, Bool, false, cond, List, [], ◌∷◌, ◌++◌, map, eqb, ltb, leb, length}
+use Rattle.std.specs.Prelude.{take, drop, replicate}
 use Rattle.meaning.specs.Logic.{◌and◌}
 use Rattle.meaning.specs.Solution.{same}
 use Rattle.meaning.specs.Models.{Model, meaning}

@@ -1,6 +1,7 @@
 -- Definitions that the theorems of `proofs/Samples` speak of.
 -- Each stands alone; what follows from them is there.
-use Rattle.std.specs.Prelude.{ℕ, zero, suc, ◌+◌, ◌-◌, cond, List, [], ◌∷◌, ◌++◌, map, eqb, ltb, length, take, drop, replicate}
+use Rattle.std.specs.Prelude.{ℕ, zero, suc, ◌+◌, ◌-◌, cond, List, [], ◌∷◌, ◌++◌, map, eqb, ltb, length, take}
+use Rattle.std.specs.Prelude.{drop, replicate}
 use Prim.Native.Char.{code}
 use Prim.Native.String.{String, len, char_at}
 use Rattle.meaning.specs.Logic.{◌or◌}

@@ -1,7 +1,8 @@
 -- DEFINITIONS: digits and bytes. Document 01, "Text of a model", and request 2026-02.
 -- "Lines of hexadecimal .. Digits are 0-9 and a-f, two a byte, no blanks"; "Accept both cases, also mixed
 -- within a byte": A-F are digits too.
-use Rattle.std.specs.Prelude.{ℕ, ◌+◌, ◌-◌, ◌*◌, ◌/◌, ◌%◌, Bool, cond, ◌&&◌, List, [], ◌∷◌, ◌++◌, map, leb, take, replicate}
+use Rattle.std.specs.Prelude.{ℕ, ◌+◌, ◌-◌, ◌*◌, ◌/◌, ◌%◌, Bool, cond, ◌&&◌, List, [], ◌∷◌, ◌++◌, map, leb}
+use Rattle.std.specs.Prelude.{take, replicate}
 
 -- "The digit's worth of every byte value comes from a table of 256 entries, 255 for what is no digit"
 abbrev pub worth_of : ℕ → ℕ

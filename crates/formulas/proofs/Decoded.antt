@@ -74,11 +74,12 @@ every_row : {A : Type 0} {P : A → Type 0} (d : A) → P d → (one : ℕ → P
     → (c at : ℕ) → Every (Row P d c at) (in_row one c at)
 unfolding in_row
 every_row d h one f zero at = each {e = at} (record { long = refl; all = λ i. h; on = omega arith })
-every_row {A = A} {P = P} d h one f (suc c) at = every_then _ (f at) (λ a m p. every_last _ (every_row d h one f c m) (λ l e r. record {
-  long = ap suc r.long;
-  all = λ i. elim i as (λ k. P (get_or (a ∷ l) k d)) [ zero ↦ p.0 | suc j ↦ r.all j ];
-  on = omega (arith, p.1, r.on);
-}))
+every_row {A = A} {P = P} d h one f (suc c) at =
+    every_then _ (f at) (λ a m p. every_last _ (every_row d h one f c m) (λ l e r. record {
+      long = ap suc r.long;
+      all = λ i. elim i as (λ k. P (get_or (a ∷ l) k d)) [ zero ↦ p.0 | suc j ↦ r.all j ];
+      on = omega (arith, p.1, r.on);
+    }))
 
 -- ---- terms
 pub SoundTerm : ℕ → Term → Type 0

@@ -1,6 +1,7 @@
 -- What the contracts of the formula reader's inner functions say; no word of the documents is defined here.
 -- `Told` is two-sided: whether something was read, and where it was, where it ends and what holds of it.
-use Rattle.std.specs.Prelude.{ℕ, zero, suc, ◌+◌, ◌-◌, ◌*◌, ◌≤◌, ◌<◌, min, Bool, true, false, cond, List, [], ◌∷◌, leb, ltb, length, get_or}
+use Rattle.std.specs.Prelude.{ℕ, zero, suc, ◌+◌, ◌-◌, ◌*◌, ◌≤◌, ◌<◌, min, Bool, true, false, cond, List, []}
+use Rattle.std.specs.Prelude.{◌∷◌, leb, ltb, length, get_or}
 use Rattle.meaning.specs.Formulas.{Term, Formula}
 use Rattle.formulas.specs.declared.Equation.{Equation}
 use Rattle.formulas.specs.declared.Kind.{Kind}

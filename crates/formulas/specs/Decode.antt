@@ -66,7 +66,8 @@ term_of_kind sub (Calculation plus) c s k at =
 -- n bounds how deep terms stand in one another: the number of bytes is enough
 unfoldable pub term_at : ℕ → List ℕ → ℕ → ℕ → Parsed Term
 term_at zero s k at = none
-term_at (suc n) s k at = term_of_kind (term_at n s k) (term_kind_of (get_or s at 0)) (operands_of (get_or s at 0))
+term_at (suc n) s k at =
+    term_of_kind (term_at n s k) (term_kind_of (get_or s at 0)) (operands_of (get_or s at 0))
     s k at
 
 -- c terms in a row

@@ -1,7 +1,8 @@
 -- THEOREMS: the case of its letters changes nothing that is read of a text, frames, refusals and places; and
 -- what is written anew is in small letters.
 -- Both cases of a digit are worth the same and neither ends a line: characters first, then lines.
-use Rattle.std.specs.Prelude.{ℕ, zero, suc, ◌+◌, ◌-◌, ◌≤◌, ◌≡◌, refl, Bool, true, false, cond, ◌&&◌, List, [], ◌∷◌, ◌++◌, map, eqb, leb}
+use Rattle.std.specs.Prelude.{ℕ, zero, suc, ◌+◌, ◌-◌, ◌≤◌, ◌≡◌, refl, Bool, true, false, cond, ◌&&◌, List, [], ◌∷◌, ◌++◌, map}
+use Rattle.std.specs.Prelude.{eqb, leb}
 use Rattle.std.proofs.Common.{arith, sym, ap, ◌∙◌, ne_eqb, leb-true}
 use Rattle.std.proofs.Math.Bool.{and-eq-true_iff}
 use Rattle.std.proofs.lemmas.List.{map-append, length-map}

@@ -1,6 +1,7 @@
 -- THEOREMS: the text of some frames has a line for each of them, how long it is, and where a line begins.
 -- No digit is byte 0a, so a line ends where its end was written and nowhere before.
-use Rattle.std.specs.Prelude.{ℕ, zero, suc, ◌+◌, ◌-◌, ◌*◌, ◌/◌, ◌%◌, ◌≡◌, refl, Bool, true, false, cond, List, [], ◌∷◌, ◌++◌, map, eqb, leb, length, take}
+use Rattle.std.specs.Prelude.{ℕ, zero, suc, ◌+◌, ◌-◌, ◌*◌, ◌/◌, ◌%◌, ◌≡◌, refl, Bool, true, false, cond, List, [], ◌∷◌, ◌++◌, map}
+use Rattle.std.specs.Prelude.{eqb, leb, length, take}
 use Rattle.std.proofs.Common.{arith, ap, ◌∙◌, length-append, ne_eqb}
 use Rattle.digits.specs.Digits.{digit_of, characters}
 use Rattle.digits.proofs.Written.{length_characters}

@@ -1,6 +1,7 @@
 -- What `frame_at` replies: the frame of the line that begins at a place of a text, for all places.
 -- Past the end of the text stands an empty line, which nothing ends.
-use Rattle.std.specs.Prelude.{ℕ, suc, ◌+◌, ◌/◌, min, cond, List, [], ◌∷◌, eqb, ltb, length, take, drop, replicate}
+use Rattle.std.specs.Prelude.{ℕ, suc, ◌+◌, ◌/◌, min, cond, List, [], ◌∷◌, eqb, ltb, length, take, drop}
+use Rattle.std.specs.Prelude.{replicate}
 use Rattle.digits.specs.Digits.{bytes_of, padded}
 use Rattle.frames.specs.declared.FrameAt.{FrameAt}
 use Rattle.frames.specs.Lines.{Line, line_refusal}

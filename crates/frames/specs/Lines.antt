@@ -1,6 +1,7 @@
 -- DEFINITIONS: the lines of a text, and which of them rules 2 and 3 refuse. Document 01, "Text of a model".
 -- "Lines of hexadecimal, one frame a line .. every line ends with byte 0a"; the last may lack it: refusal 3.
-use Rattle.std.specs.Prelude.{ℕ, zero, suc, ◌+◌, ◌-◌, ◌%◌, Bool, true, false, cond, ◌&&◌, List, [], ◌∷◌, ◌++◌, eqb, leb, length}
+use Rattle.std.specs.Prelude.{ℕ, zero, suc, ◌+◌, ◌-◌, ◌%◌, Bool, true, false, cond, ◌&&◌, List, [], ◌∷◌, ◌++◌}
+use Rattle.std.specs.Prelude.{eqb, leb, length}
 use Rattle.digits.specs.Digits.{is_digit}
 
 -- a line: its characters, and whether byte 0a ends it

@@ -23,7 +23,8 @@ use Rattle.inputs.specs.InputFrames.{summand_frame, input_frames}
 use Rattle.inputs.proofs.FramesSpelled.{process_fits, process_spelled, ranges_count}
 use Rattle.inputs.proofs.FramesSpelled.{summand_formed, summand_spelled}
 use Rattle.inputs.proofs.FramesSpelled.{formula_formed, formula_spelled_frame}
-use Rattle.inputs.specs.Content.{Begun, Next, Opened, Stage, Summands, Whole, a_formula, a_note, a_process, a_summand, begun, no_more, nothing, one_more, whole}
+use Rattle.inputs.specs.Content.{Begun, Next, Opened, Stage, Summands, Whole, a_formula, a_note, a_process, a_summand, begun}
+use Rattle.inputs.specs.Content.{no_more, nothing, one_more, whole}
 
 -- ---- frames by their first byte
 pub code_more : (code : ℕ) (fs gs : List (List ℕ)) →

@@ -9,7 +9,8 @@ use Rattle.inputs.specs.Inputs.{is_none, is_open}
 -- summands of a process whose parameters have the ranges rs
 pub data Summands (rs : List ℕ) : List (List ℕ) → Type 0 where
   no_more : Summands rs []
-  one_more : {f : List ℕ} {fs : List (List ℕ)} → get_or f 0 0 ≡ 0x07 → is_summand rs f ≡ true → Summands rs fs →
+  one_more : {f : List ℕ} {fs : List (List ℕ)} → get_or f 0 0 ≡ 0x07 → is_summand rs f ≡ true
+      → Summands rs fs →
       Summands rs (f ∷ fs)
 
 -- ---- a process, and some of its summands

@@ -1,7 +1,8 @@
 -- DEFINITIONS: from the frames `09`, `07` and `08` of a text to a process and a formula, and when the text is
 -- refused. Request 2026-10.
 -- "Refusals: 1, then 2 and 3 by line as in 01; then 14 with the first line that breaks these frame rules".
-use Rattle.std.specs.Prelude.{ℕ, ◌+◌, Bool, true, false, not, cond, ◌&&◌, List, [], ◌∷◌, ◌++◌, map, length, get_or, take, drop, eqb, leb}
+use Rattle.std.specs.Prelude.{ℕ, ◌+◌, Bool, true, false, not, cond, ◌&&◌, List, [], ◌∷◌, ◌++◌, map, length}
+use Rattle.std.specs.Prelude.{get_or, take, drop, eqb, leb}
 use Rattle.meaning.specs.Formulas.{Term, Formula, constant}
 use Rattle.meaning.specs.Ranges.{within, all_ranges}
 use Rattle.frames.specs.Frames.{Frame, frames}

@@ -156,7 +156,20 @@ modal_code s at =
     cases (eqb c 0x32) (λ h. is_fixed_point false (eqb-true c 0x32 h)) (λ h6.
     cases (eqb c 0x33) (λ h. is_fixed_point true (eqb-true c 0x33 h)) (λ h7.
     cases (eqb c 0x34) (λ h. is_of_fixed_point (eqb-true c 0x34 h)) (λ h8.
-    no_modal (λ n. elim n as (λ k. modal_at k s at ≡ none) [ zero ↦ refl | suc m ↦ rw (h0, h1, h2, h3, h4, h5, h6, h7, h8) refl ]))))))))))
+    no_modal (λ n. elim n as (λ k. modal_at k s at ≡ none) [
+      | zero ↦ refl
+      | suc m ↦ rw (
+        h0,
+        h1,
+        h2,
+        h3,
+        h4,
+        h5,
+        h6,
+        h7,
+        h8,
+      ) refl
+    ]))))))))))
 
 -- ---- what was read, known to be that
 pub read_as : {A : Type 0} (p : Parsed A) → Every (λ a e. p ≡ some a e) p

@@ -1,6 +1,7 @@
 -- Frames laid out in 18 places of 256 bytes each: the process first, then the summands, the formula last.
 -- Where nothing is laid there are zeros.
-use Rattle.std.specs.Prelude.{ℕ, suc, ◌+◌, ◌*◌, ◌≤◌, ◌<◌, min, ◌≡◌, cond, List, [], ◌∷◌, eqb, length, get_or, replicate}
+use Rattle.std.specs.Prelude.{ℕ, suc, ◌+◌, ◌*◌, ◌≤◌, ◌<◌, min, ◌≡◌, cond, List, [], ◌∷◌, eqb, length, get_or}
+use Rattle.std.specs.Prelude.{replicate}
 use Rattle.std.proofs.lemmas.List.Edits.{sets}
 use Rattle.spelling.specs.Stands.{Stands}
 use Rattle.translation.specs.Processes.{Process}

@@ -1,7 +1,8 @@
 -- DEFINITIONS: the graph of a table of words: what each right side reads, its readers, and what is plain.
 -- It stands in rows of sets: one for each instance's reads, one for its readers, one for each equation's
 -- instances, and two for the right sides that are a plain `and` or a plain `or`.
-use Rattle.std.specs.Prelude.{ℕ, ◌+◌, ◌≤◌, ◌<◌, ◌≡◌, Bool, true, false, cond, ◌&&◌, ◌||◌, List, [], ◌∷◌, map, eqb, ltb, length, get_or}
+use Rattle.std.specs.Prelude.{ℕ, ◌+◌, ◌≤◌, ◌<◌, ◌≡◌, Bool, true, false, cond, ◌&&◌, ◌||◌, List, [], ◌∷◌, map}
+use Rattle.std.specs.Prelude.{eqb, ltb, length, get_or}
 use Rattle.std.specs.Bool.{beq}
 use Rattle.meaning.specs.Logic.{Is}
 use Rattle.meaning.specs.Solution.{mem}

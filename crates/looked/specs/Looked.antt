@@ -1,6 +1,7 @@
 -- DEFINITIONS: which variables are looked at for a value, and what it means that no other one matters.
 -- A set of them is one byte: "parameters are 0 to k-1, then quantified ones", so there are at most eight.
-use Rattle.std.specs.Prelude.{ℕ, ◌^◌, ◌<◌, ◌≡◌, Bool, true, cond, ◌||◌, List, [], ◌∷◌, ◌++◌, eqb, ltb, leb, length, get_or}
+use Rattle.std.specs.Prelude.{ℕ, ◌^◌, ◌<◌, ◌≡◌, Bool, true, cond, ◌||◌, List, [], ◌∷◌, ◌++◌, eqb, ltb, leb}
+use Rattle.std.specs.Prelude.{length, get_or}
 use Rattle.std.specs.Int.Bits.{bit_or}
 use Rattle.meaning.specs.Formulas.{Term, number, variable, calculated}
 use Rattle.truth.specs.Bits.{digit}

@@ -9,7 +9,8 @@ use Rattle.meaning.specs.Models.{spread, in_range, system, meaning}
 use Rattle.meaning.specs.Simplification.{join_simplified, simplified}
 use Rattle.meaning.specs.Reach.{leaves, instances, body_of, next, fresh, explore}
 use Rattle.meaning.specs.Reach.{every_instance, reached}
-use Rattle.meaning.specs.Counterexamples.{greatest_equation, greatest_first, inner_upholds_itself, least_equation, least_first, removed}
+use Rattle.meaning.specs.Counterexamples.{greatest_equation, greatest_first, inner_upholds_itself, least_equation, least_first}
+use Rattle.meaning.specs.Counterexamples.{removed}
 
 pub the_first_decides : (meaning least_first 0 [] ≡ false) × (meaning greatest_first 1 [] ≡ true)
 unfolding meaning solution system in_range spread least greatest every some all mem same holds ◌and◌ ◌or◌ ◌⇒◌

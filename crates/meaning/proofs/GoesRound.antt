@@ -1,6 +1,7 @@
 -- Request 2026-04: `23 r a b` is the one number from 0 to r-1 that differs from a-b by a multiple of r.
 -- A number does so exactly where, with b added, it leaves the same remainder by r as a.
-use Rattle.std.specs.Prelude.{ℕ, suc, ◌+◌, ◌*◌, ◌-◌, ◌/◌, ◌%◌, ◌<◌, ◌≤◌, ◌≡◌, refl, false, List, ◌⊎◌, ℤ, pos, negsuc, neg_ℤ, nat_abs, ◌+ℤ◌, ◌-ℤ◌, ◌*ℤ◌}
+use Rattle.std.specs.Prelude.{ℕ, suc, ◌+◌, ◌*◌, ◌-◌, ◌/◌, ◌%◌, ◌<◌, ◌≤◌, ◌≡◌, refl, false, List, ◌⊎◌, ℤ, pos, negsuc, neg_ℤ}
+use Rattle.std.specs.Prelude.{nat_abs, ◌+ℤ◌, ◌-ℤ◌, ◌*ℤ◌}
 use Rattle.std.proofs.Common.{arith, add-mul, le-mul_of_pos_right, mod-eq_of_lt, eq-zero-or-pos, sym, ap, ◌∙◌, inl, inr}
 use Rattle.std.proofs.Math.Nat.{mod-add-div', mod-add-mod, add-mul-mod_self_right, mul-add-mod_self_right}
 use Rattle.std.proofs.Math.IntN.{neg_ℤ-+ℤ, neg_ℤ-neg_ℤ, +ℤ_comm, +ℤ_assoc, +ℤ_idl, +ℤ_invr, +ℤ-neg_ℤ_cancel, -ℤ-+ℤ_cancel}

@@ -7,7 +7,8 @@ use Rattle.meaning.specs.Order.{Below, up, implies, below_refl, below_trans, bel
 use Rattle.meaning.specs.Solution.{Args, Set, Assign, Equation, put, solution}
 use Rattle.meaning.specs.FixedPoints.{Ordered_on, Mono}
 use Rattle.meaning.proofs.FixedPoints.{fix_order, least_below_greatest}
-use Rattle.meaning.specs.Systems.{AllRising, Depends_on, Implies_on, Keeps, Rising, Same_on, Under, everywhere, image, kept, no_equation, raised}
+use Rattle.meaning.specs.Systems.{AllRising, Depends_on, Implies_on, Keeps, Rising, Same_on, Under, everywhere, image, kept}
+use Rattle.meaning.specs.Systems.{no_equation, raised}
 
 pub put_on : (R : Assign) (n : ℕ) (S S' : Set) (θ θ' : Assign) → Ordered_on (R n) false S S' →
     Implies_on R θ θ' → Implies_on R (put n S θ) (put n S' θ')

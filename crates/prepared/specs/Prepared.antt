@@ -1,7 +1,8 @@
 -- DEFINITIONS: a body prepared for evaluation, and the formulas in it. Document 01, "Text of a model".
 -- It has the body's bytes, 256 at most, and from 256 on for each of their places how many bytes come after
 -- the first of the formula or term that begins there: so any part can be passed over at once.
-use Rattle.std.specs.Prelude.{ℕ, zero, suc, ◌+◌, ◌-◌, ◌*◌, min, false, cond, List, [], ◌∷◌, ltb, take, drop, get_or}
+use Rattle.std.specs.Prelude.{ℕ, zero, suc, ◌+◌, ◌-◌, ◌*◌, min, false, cond, List, [], ◌∷◌, ltb, take, drop}
+use Rattle.std.specs.Prelude.{get_or}
 use Rattle.meaning.specs.Formulas.{Term, number, variable, calculated, Formula, constant, joined, quantified}
 use Rattle.meaning.specs.Formulas.{compared, instance}
 use Rattle.meaning.specs.Ranges.{is_range}

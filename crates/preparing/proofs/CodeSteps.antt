@@ -67,7 +67,8 @@ pub record Begins (s : List ℕ) (at parts width : ℕ) : Type 0 where
   pub many : parts_of (get_or s at 0) (get_or s (at + 2) 0) ≡ parts
   pub wide : width_of (get_or s at 0) ≡ width
 
-pub begins : (s : List ℕ) (at parts width : ℕ) → T (steps (get_or s at 0) (get_or s (at + 2) 0) parts width) → Begins s at parts width
+pub begins : (s : List ℕ) (at parts width : ℕ) → T (steps (get_or s at 0) (get_or s (at + 2) 0) parts width)
+    → Begins s at parts width
 begins s at parts width t =
     let many = parts_of (get_or s at 0) (get_or s (at + 2) 0) in
     let wide = width_of (get_or s at 0) in

@@ -1,7 +1,8 @@
 -- What the private functions print: an answer's lines from its table's words, its truth and its equation
 -- records.
 -- That these are the lines of the text's answer is shown in proofs/Answered.
-use Rattle.std.specs.Prelude.{◌≡◌, ℕ, suc, ◌≤◌, ◌<◌, Bool, cond, List, [], ◌∷◌, ◌++◌, eqb, length, take, get_or}
+use Rattle.std.specs.Prelude.{◌≡◌, ℕ, suc, ◌≤◌, ◌<◌, Bool, cond, List, [], ◌∷◌, ◌++◌, eqb, length, take}
+use Rattle.std.specs.Prelude.{get_or}
 use Rattle.meaning.specs.WordLaws.{arguments_of}
 use Rattle.formulas.specs.declared.Equation.{Equation}
 use Rattle.formulas.specs.Bodies.{blank}

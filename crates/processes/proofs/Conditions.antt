@@ -103,13 +103,15 @@ module _ (s : List ℕ) where
       (join_read all (sub (at + 1)) (formula_at n s k q) (formula_at n s k 4) sub)
   by_kind n k q at sub (Quantifier all) h =
       rw (shape_quantifier n s k q at all h, shape_quantifier n s k 4 at all h)
-      (quantifier_read all (get_or s (at + 1) 0) (ltb q 4) (is_range (get_or s (at + 1) 0)) (formula_at n s (k + 1) (q + 1) (at + 2)))
+      (quantifier_read all (get_or s (at + 1) 0) (ltb q 4) (is_range (get_or s (at + 1) 0))
+      (formula_at n s (k + 1) (q + 1) (at + 2)))
   by_kind n k q at sub (Compare t) h =
       rw (shape_compare n s k q at t h, shape_compare n s k 4 at t h)
       (same_read _ (λ ts. compared_alike (test_of t) (nth_term ts 0) (nth_term ts 1)) (terms_at n 2 s k (at + 1)))
   by_kind n k q at sub Instance h =
       rw (shape_instance n s k q at h, shape_instance n s k 4 at h)
-      (instance_read (get_or s (at + 1) 0) (leb (get_or s (at + 1 + 1) 0) 4) (terms_at n (get_or s (at + 1 + 1) 0) s k (at + 1 + 2)))
+      (instance_read (get_or s (at + 1) 0) (leb (get_or s (at + 1 + 1) 0) 4)
+      (terms_at n (get_or s (at + 1 + 1) 0) s k (at + 1 + 2)))
 
   beside : (n k q at : ℕ) → Beside (formula_at n s k q at) (formula_at n s k 4 at)
   unfolding formula_at

@@ -45,7 +45,8 @@ module _ (f : List ℕ) (count : ℕ) where
   pub ranges_all : count ≡ count_of f → all_ranges (counted_bytes f) ≡ ranges_left 0
   ranges_all e = rw (left_all 2, e) refl
 
-  pub ranges_next : (i : ℕ) → i < count → (b : Bool) → b ≡ is_range (get_or f (2 + i) 0) → ranges_left i ≡ b and ranges_left (i + 1)
+  pub ranges_next : (i : ℕ) → i < count → (b : Bool) → b ≡ is_range (get_or f (2 + i) 0)
+      → ranges_left i ≡ b and ranges_left (i + 1)
   unfolding all_ranges
   ranges_next i h b e = rw (left_next 2 i h, e) refl
 

@@ -59,7 +59,8 @@ module _ (s : List ℕ) (at : ℕ) where
       let next : at + 1 + w ≡ at + suc w = omega arith in
       one_inside (after all A) w l (e ∙ x) i (λ n. rw (shape_after n s at all h, y, next) refl)
   after_head all h e i (no_actions x y) =
-      no_head (e ∙ x) (λ n. elim n as (λ k. modal_at k s at ≡ none) [ zero ↦ refl | suc m ↦ rw (shape_after m s at all h, y) refl ])
+      no_head (e
+      ∙ x) (λ n. elim n as (λ k. modal_at k s at ≡ none) [ zero ↦ refl | suc m ↦ rw (shape_after m s at all h, y) refl ])
 
   pub head : Head s at
   unfolding modal_at modal_of_code modal_width parts_of either_code
@@ -85,7 +86,20 @@ module _ (s : List ℕ) (at : ℕ) where
       none_inside (of_fixed_point (get_or s (at + 1) 0)) 1 (omega arith) (rw e refl) (rw e refl)
       (λ n. shape_of_fixed_point n s at e)) (λ h8.
       no_head (rw (h0, h1, h2, h3, h4, h5, h6, h7, h8) refl)
-      (λ n. elim n as (λ k. modal_at k s at ≡ none) [ zero ↦ refl | suc m ↦ rw (h0, h1, h2, h3, h4, h5, h6, h7, h8) refl ]))))))))))
+      (λ n. elim n as (λ k. modal_at k s at ≡ none) [
+        | zero ↦ refl
+        | suc m ↦ rw (
+          h0,
+          h1,
+          h2,
+          h3,
+          h4,
+          h5,
+          h6,
+          h7,
+          h8,
+        ) refl
+      ]))))))))))
 
   abbrev pub width : ℕ
   width = modal_width (get_or s at 0) (get_or s (at + 1) 0)

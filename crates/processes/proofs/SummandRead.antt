@@ -155,7 +155,8 @@ module _ (rs f : List ℕ) (short : length f ≤ 256) where
     tests_are = rw (terms_read (e + 1)) refl
 
     reordered : (w b : Bool) → (b ≡ true → ltb 0 e && ltb e (length f) ≡ true) → tests_with (w and b)
-        ≡ b && (leb (count_of f) 4 and all_ranges (counted_bytes f) and (true and true) and leb (get_or f e 0) 15 and (true and w))
+        ≡ b && (leb (count_of f) 4 and all_ranges (counted_bytes f) and (true and true) and leb (get_or f e 0) 15 and
+        (true and w))
     reordered w b =
         same_tests (leb (count_of f) 4) (all_ranges (counted_bytes f)) (ltb 0 e && ltb e (length f)) (leb (get_or f e 0) 15) w b
 

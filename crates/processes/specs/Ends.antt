@@ -1,6 +1,7 @@
 -- What the contracts of the functions that read formulas say; no word of the documents is defined here.
 -- A place is where something ends; 0 stands for nothing that could be read.
-use Rattle.std.specs.Prelude.{ℕ, ◌+◌, ◌≤◌, ◌≡◌, Bool, true, not, cond, ◌&&◌, List, [], eqb, leb, ltb, length, get_or}
+use Rattle.std.specs.Prelude.{ℕ, ◌+◌, ◌≤◌, ◌≡◌, Bool, true, not, cond, ◌&&◌, List, [], eqb, leb, ltb, length}
+use Rattle.std.specs.Prelude.{get_or}
 use Rattle.formulas.specs.Decode.{Parsed, none, some}
 use Rattle.spelling.specs.Stands.{Stands}
 use Rattle.translation.specs.Modal.{Modal}

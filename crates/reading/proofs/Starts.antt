@@ -63,7 +63,8 @@ module _ (n k m : ℕ) (x rs : List ℕ) (hx : length x ≡ 4) (hr : length rs �
   same i h =
       subst (λ (l : List ℕ). four_fit i l rs ≡ within (take i l) (take i rs)) (all_four x hx)
       (subst (λ (l : List ℕ). four_fit i (four_of x) l ≡ within (take i (four_of x)) (take i l)) (all_four rs hr)
-      (same_number (get_or x 0 0) (get_or x 1 0) (get_or x 2 0) (get_or x 3 0) (get_or rs 0 0) (get_or rs 1 0) (get_or rs 2 0) (get_or rs 3 0) i
+      (same_number (get_or x 0 0) (get_or x 1 0) (get_or x 2 0) (get_or x 3 0) (get_or rs 0 0) (get_or rs 1 0) (get_or rs 2 0)
+      (get_or rs 3 0) i
       h))
 
   wrong_number : (n ≡ m → ⊥) → leb n 4 && within (take n x) (take k rs) ≡ false

@@ -1,7 +1,8 @@
 -- What the contracts of the reader's inner functions say; no word of the documents is defined here.
 -- They speak of the structs that the code has; that these hold the frames read so far is shown in
 -- proofs/Drafts.
-use Rattle.std.specs.Prelude.{ℕ, ◌+◌, ◌*◌, ◌≤◌, ◌<◌, ◌≡◌, Bool, true, false, cond, ◌&&◌, List, [], ◌∷◌, eqb, leb, get_or, take, drop, set}
+use Rattle.std.specs.Prelude.{ℕ, ◌+◌, ◌*◌, ◌≤◌, ◌<◌, ◌≡◌, Bool, true, false, cond, ◌&&◌, List, [], ◌∷◌, eqb}
+use Rattle.std.specs.Prelude.{leb, get_or, take, drop, set}
 use Rattle.std.proofs.lemmas.List.Edits.{sets}
 use Rattle.meaning.specs.Ranges.{all_ranges, typed}
 use Rattle.meaning.specs.Reach.{Instance}

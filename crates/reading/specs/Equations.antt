@@ -1,6 +1,7 @@
 -- DEFINITIONS: what a frame says as an equation, and as a start. Document 01, "Text of a model", refusal 5.
 -- f is the list of a frame's bytes; a byte past its end reads 0.
-use Rattle.std.specs.Prelude.{ℕ, ◌+◌, Bool, cond, ◌&&◌, List, [], ◌∷◌, eqb, ltb, leb, get_or, length, take, drop}
+use Rattle.std.specs.Prelude.{ℕ, ◌+◌, Bool, cond, ◌&&◌, List, [], ◌∷◌, eqb, ltb, leb, get_or, length, take}
+use Rattle.std.specs.Prelude.{drop}
 use Rattle.meaning.specs.Models.{ModelEquation}
 use Rattle.meaning.specs.Ranges.{all_ranges}
 use Rattle.meaning.specs.Reach.{Instance}

@@ -1,6 +1,7 @@
 -- DEFINITIONS: what reading lends and hands on. Document 01, "What is lent".
 -- The records of the equations, with places in the text; the lines; the start; the bodies' bytes.
-use Rattle.std.specs.Prelude.{ℕ, suc, ◌+◌, ◌-◌, ◌*◌, cond, not, List, [], ◌∷◌, ◌++◌, map, eqb, get_or, length, replicate}
+use Rattle.std.specs.Prelude.{ℕ, suc, ◌+◌, ◌-◌, ◌*◌, cond, not, List, [], ◌∷◌, ◌++◌, map, eqb, get_or, length}
+use Rattle.std.specs.Prelude.{replicate}
 use Rattle.std.proofs.lemmas.List.Edits.{sets}
 use Rattle.frames.specs.Lines.{line_place}
 use Rattle.frames.specs.Frames.{Frame, frames}

@@ -1,7 +1,8 @@
 -- What the resulting text is: its lines, its length, the places of its lines, and how the old text is cut.
 -- The lines before the equation's and those behind it are as they were; a text is its lines, put together.
 use Prim.Native.Nat.{ℕ, zero, suc, ◌+◌, ◌-◌, ◌*◌, ◌≤◌, ◌<◌}
-use Rattle.std.proofs.Common.{arith, ap₂, ◌∙◌, length-append, length-drop, take-append-drop, length-take-le, take_at, drop_at, drop-drop}
+use Rattle.std.proofs.Common.{arith, ap₂, ◌∙◌, length-append, length-drop, take-append-drop, length-take-le, take_at, drop_at}
+use Rattle.std.proofs.Common.{drop-drop}
 use Rattle.std.specs.Prelude.{◌≡◌, true, set}
 use Rattle.std.proofs.Math.Path.{refl, sym, ap}
 use mathlib.Core.List.{List, [], ◌∷◌, ◌++◌, append_assoc}

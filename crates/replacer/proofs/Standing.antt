@@ -1,6 +1,7 @@
 -- Where an equation stands in a text that is read: the lines before its own, its own, and those behind it.
 -- The lines are gone through until so many equations are passed; what stands there is the equation's frame.
-use Rattle.std.specs.Prelude.{ℕ, zero, suc, ◌+◌, ◌<◌, ◌≡◌, refl, Bool, true, false, cond, List, [], ◌∷◌, ◌++◌, eqb, length, get_or}
+use Rattle.std.specs.Prelude.{ℕ, zero, suc, ◌+◌, ◌<◌, ◌≡◌, refl, Bool, true, false, cond, List, [], ◌∷◌, ◌++◌, eqb, length}
+use Rattle.std.specs.Prelude.{get_or}
 use Rattle.std.proofs.Common.{arith, sym, ap, subst, ◌∙◌, eqb-true}
 use Rattle.std.proofs.lemmas.List.{get_or_at}
 use Rattle.meaning.specs.Logic.{cases}

@@ -1,6 +1,7 @@
 -- DEFINITIONS: what the command `replace E SIDE` prints for a text: the resulting text, or the line of the
 -- refusal. E is a number in decimal digits, SIDE the bytes of the new right side in hexadecimal ones.
-use Rattle.std.specs.Prelude.{ℕ, ◌+◌, ◌-◌, ◌*◌, ◌%◌, ◌≡◌, Bool, true, cond, ◌&&◌, List, [], ◌∷◌, eqb, leb, length}
+use Rattle.std.specs.Prelude.{ℕ, ◌+◌, ◌-◌, ◌*◌, ◌%◌, ◌≡◌, Bool, true, cond, ◌&&◌, List, [], ◌∷◌, eqb, leb}
+use Rattle.std.specs.Prelude.{length}
 use Rattle.digits.specs.Digits.{bytes_of}
 use Rattle.frames.specs.Lines.{all_digits}
 use Rattle.writing.specs.Printed.{printed, Prints}

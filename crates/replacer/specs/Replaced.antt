@@ -1,7 +1,8 @@
 -- DEFINITIONS: a text with one right side replaced, and when that is refused. Request 2026-01.
 -- "from a text, an equation number and the bytes of a new right side it writes .. the text with that one
 -- right side replaced, notes and order kept": one line is another, and all others are as they were.
-use Rattle.std.specs.Prelude.{ℕ, ◌+◌, ◌-◌, ◌*◌, ◌≡◌, Bool, false, cond, List, [], ◌++◌, eqb, ltb, leb, length, get_or, take, drop, set}
+use Rattle.std.specs.Prelude.{ℕ, ◌+◌, ◌-◌, ◌*◌, ◌≡◌, Bool, false, cond, List, [], ◌++◌, eqb, ltb, leb, length}
+use Rattle.std.specs.Prelude.{get_or, take, drop, set}
 use Rattle.digits.specs.Digits.{characters}
 use Rattle.frames.specs.Lines.{Line, lines_of, joined}
 use Rattle.frames.specs.Frames.{Frame, frames}

@@ -73,7 +73,8 @@ module _ {s places : List ℕ} {k : ℕ} (h : Placing s places k) where
         record {
           action = λ j l.
               let here : 5 * (j + 1) + 0 ≡ 5 * (j + 1) = omega arith in
-              sym (ap (λ (n : ℕ). get_or places n 0) here) ∙ (filled j 0 l (omega arith) (omega (arith, few, l, done))).action refl;
+              sym (ap (λ (n : ℕ). get_or places n 0) here)
+              ∙ (filled j 0 l (omega arith) (omega (arith, few, l, done))).action refl;
           next = λ j i l m.
               let terms = (ruled process f p).few_terms j l in
               let here : 5 * (j + 1) + (i + 1) ≡ 5 * (j + 1) + 1 + i = omega arith in

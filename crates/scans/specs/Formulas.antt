@@ -38,4 +38,5 @@ pub record Finds (sheet : List ℕ) (number r : ℕ) : Type 0 where
   pub near : r ≤ 256
   pub found : (f : Modal) → length sheet ≡ 4608 → Stands sheet 4353 (spelled_modal f)
       → number < fixed_points f → Stands sheet (4352 + r) (spelled_modal
-      (fixed_point (get_or (fixed_in f) number no_fixed).greatest (get_or (fixed_in f) number no_fixed).inner))
+      (fixed_point (get_or (fixed_in f) number no_fixed).greatest
+      (get_or (fixed_in f) number no_fixed).inner))

@@ -75,7 +75,8 @@ pub joined_code : (s : List ℕ) (at : ℕ) (all : Bool) (g h : Modal) → Stand
 unfolding modal_code
 joined_code s at all g h p = first_code s at (combined all g h) p
 
-pub truth_code : (s : List ℕ) (at : ℕ) (b : Bool) → Stands s at (spelled_modal (truth b)) → get_or s at 0 ≡ either_code b 0x11 0x10
+pub truth_code : (s : List ℕ) (at : ℕ) (b : Bool) → Stands s at (spelled_modal (truth b))
+    → get_or s at 0 ≡ either_code b 0x11 0x10
 unfolding modal_code
 truth_code s at b p = first_code s at (truth b) p
 

@@ -1,6 +1,7 @@
 -- The steps around a formula, the last one first, and what the parameters are after them.
 -- A step is a summand of the process, by its number, and how many quantifiers are around it.
-use Rattle.std.specs.Prelude.{ℕ, suc, ◌+◌, ◌-◌, ◌*◌, ◌≤◌, ◌<◌, ◌≡◌, Bool, true, false, cond, List, [], ◌∷◌, ◌++◌, eqb, length, get_or}
+use Rattle.std.specs.Prelude.{ℕ, suc, ◌+◌, ◌-◌, ◌*◌, ◌≤◌, ◌<◌, ◌≡◌, Bool, true, false, cond, List, [], ◌∷◌}
+use Rattle.std.specs.Prelude.{◌++◌, eqb, length, get_or}
 use Rattle.meaning.specs.Formulas.{Term}
 use Rattle.meaning.specs.Ranges.{sound_term, sound}
 use Rattle.spelling.specs.Spelled.{spelled, spelled_term}

@@ -1,7 +1,8 @@
 -- What is promised of right sides that are put: for any sheet that counts stay in bounds, and where a process
 -- and a formula are laid out on it, which bytes they are.
 -- In what follows `out` and `left` are the frame before and after, `count` and r how many bytes are in it.
-use Rattle.std.specs.Prelude.{ℕ, ◌+◌, ◌-◌, ◌*◌, ◌≤◌, ◌<◌, ◌≡◌, Bool, true, cond, List, [], ◌∷◌, ◌++◌, map, eqb, leb, ltb, length, get_or, take, drop}
+use Rattle.std.specs.Prelude.{ℕ, ◌+◌, ◌-◌, ◌*◌, ◌≤◌, ◌<◌, ◌≡◌, Bool, true, cond, List, [], ◌∷◌, ◌++◌, map}
+use Rattle.std.specs.Prelude.{eqb, leb, ltb, length, get_or, take, drop}
 use Rattle.std.proofs.lemmas.List.Edits.{sets}
 use Rattle.meaning.specs.Logic.{Is}
 use Rattle.meaning.specs.Formulas.{Formula, instance, number}

@@ -1,7 +1,9 @@
 -- Bytes that stand at a place of other bytes: what is known of their parts, and how parts make the whole.
 -- The other bytes are taken apart there: those in front, these, and those behind.
-use Rattle.std.specs.Prelude.{ℕ, suc, ◌+◌, ◌≤◌, ◌<◌, ◌≡◌, refl, List, [], ◌∷◌, ◌++◌, length, get_or, take, drop}
-use Rattle.std.proofs.Common.{arith, sym, ◌∙◌, ap, ap₂, append-nil, append_assoc, length-append, take-append-drop, drop-cons, length-take-le}
+use Rattle.std.specs.Prelude.{ℕ, suc, ◌+◌, ◌≤◌, ◌<◌, ◌≡◌, refl, List, [], ◌∷◌, ◌++◌, length, get_or, take}
+use Rattle.std.specs.Prelude.{drop}
+use Rattle.std.proofs.Common.{arith, sym, ◌∙◌, ap, ap₂, append-nil, append_assoc, length-append}
+use Rattle.std.proofs.Common.{take-append-drop, drop-cons, length-take-le}
 use Rattle.std.proofs.Math.Seq.{get_or-append_seam, drop-append_seam}
 
 -- the bytes w stand at place `at` of s

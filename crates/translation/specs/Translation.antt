@@ -1,6 +1,7 @@
 -- DEFINITIONS: the model of a process and a formula. Request 2026-10; source document 004, E and RHS.
 -- Fixed points become equations; boxes and diamonds quantify over the values of the summands' own variables.
-use Rattle.std.specs.Prelude.{ℕ, suc, ◌+◌, Bool, true, false, not, cond, List, [], ◌∷◌, ◌++◌, map, length, get_or, ltb}
+use Rattle.std.specs.Prelude.{ℕ, suc, ◌+◌, Bool, true, false, not, cond, List, [], ◌∷◌, ◌++◌, map, length}
+use Rattle.std.specs.Prelude.{get_or, ltb}
 use Rattle.meaning.specs.Logic.{◌and◌}
 use Rattle.meaning.specs.Formulas.{Term, number, variable, calculated, Test, equal, less, unequal, not_less}
 use Rattle.meaning.specs.Formulas.{Formula, constant, joined, quantified, compared, instance}

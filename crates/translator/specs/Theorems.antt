@@ -1,7 +1,8 @@
 -- THEOREMS about a text that is translated: what is written is read as the model, and it holds exactly when
 -- the start state satisfies the formula.
 -- Each is a theorem of the crates below, for the process and the formula of an accepted text.
-use Rattle.std.specs.Prelude.{ℕ, zero, suc, ◌≤◌, ◌≡◌, refl, Bool, true, false, cond, List, [], ◌∷◌, map, eqb, leb, length}
+use Rattle.std.specs.Prelude.{ℕ, zero, suc, ◌≤◌, ◌≡◌, refl, Bool, true, false, cond, List, [], ◌∷◌, map, eqb}
+use Rattle.std.specs.Prelude.{leb, length}
 use Rattle.std.proofs.Common.{arith, sym, subst, ap, ◌∙◌, eqb-true, leb-true}
 use Rattle.std.proofs.Math.Bool.{and-eq-true_iff}
 use Rattle.std.proofs.lemmas.Bool.{eqb-false}
@@ -79,29 +80,30 @@ unfolding translation_refusal
 accepted t room z = by_input t room (eqb (input_refusal t).number 0) refl z
 
 -- ---- a text that is read, whose model is within the limits
-module _ (t : List ℕ) (read : (input_refusal t).number ≡ 0) (within : within_limits (model_for t) ≡ true) where
-  keeps_rules : Is (well_formed_input (process_of t) (formula_of t))
-  keeps_rules = content_formed t read
+module _ (t : List ℕ) (read : (input_refusal t).number ≡ 0) (within : within_limits (model_for t) ≡ true)
+  where
+    keeps_rules : Is (well_formed_input (process_of t) (formula_of t))
+    keeps_rules = content_formed t read
 
-  limits : (length (model_for t) ≤ 8) × (each_fits (model_for t) ≡ true)
-  unfolding within_limits
-  limits =
-      let both = (and-eq-true_iff (leb (length (model_for t)) 8) (each_fits (model_for t))).0 within in
-      (leb-true _ 8 both.0, both.1)
+    limits : (length (model_for t) ≤ 8) × (each_fits (model_for t) ≡ true)
+    unfolding within_limits
+    limits =
+        let both = (and-eq-true_iff (leb (length (model_for t)) 8) (each_fits (model_for t))).0 within in
+        (leb-true _ 8 both.0, both.1)
 
-  well : Is (well_formed (model_for t) (translated_start (process_of t)))
-  well =
-      translation_well_formed (process_of t) (formula_of t) keeps_rules limits.0
-      (fits_four (model_for t) limits.1)
+    well : Is (well_formed (model_for t) (translated_start (process_of t)))
+    well =
+        translation_well_formed (process_of t) (formula_of t) keeps_rules limits.0
+        (fits_four (model_for t) limits.1)
 
-  short : AllShort (model_frames (model_for t) (translated_start (process_of t)))
-  short =
-      model_frames_short (model_for t) (translated_start (process_of t)) well
-      (fits_short (model_for t) limits.1)
+    short : AllShort (model_frames (model_for t) (translated_start (process_of t)))
+    short =
+        model_frames_short (model_for t) (translated_start (process_of t)) well
+        (fits_short (model_for t) limits.1)
 
-  -- no text of a model is longer
-  pub translated_text_short : length (translated_text t) ≤ 4117
-  translated_text_short = model_text_short (model_for t) (translated_start (process_of t)) well short
+    -- no text of a model is longer
+    pub translated_text_short : length (translated_text t) ≤ 4117
+    translated_text_short = model_text_short (model_for t) (translated_start (process_of t)) well short
 
 -- ---- a text for which no refusal is given, whatever the buffer's length
 module _ (t : List ℕ) (room : ℕ) (z : (translation_refusal t room).number ≡ 0) where

@@ -1,7 +1,8 @@
 -- DEFINITIONS: a set of instances in eight words. Document 01, "What is lent".
 -- What a set says is a function from an instance's number to its truth, so that two sets are compared by one
 -- equation of functions.
-use Rattle.std.specs.Prelude.{◌≡◌, Bool, true, false, cond, ◌&&◌, List, ℕ, zero, suc, ◌+◌, ◌/◌, ◌%◌, ◌^◌, ◌≤◌, eqb, ltb, get_or}
+use Rattle.std.specs.Prelude.{◌≡◌, Bool, true, false, cond, ◌&&◌, List, ℕ, zero, suc, ◌+◌, ◌/◌, ◌%◌, ◌^◌, ◌≤◌}
+use Rattle.std.specs.Prelude.{eqb, ltb, get_or}
 use Rattle.std.specs.Bool.{beq}
 
 -- binary digit k of w, 0 or 1

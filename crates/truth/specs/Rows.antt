@@ -1,6 +1,7 @@
 -- DEFINITIONS: rows of sets: eight words each, one after the other in a list of words.
 -- Row i has number k where bit k of its eight words is set; so it is bit i * 512 + k of the whole list.
-use Rattle.std.specs.Prelude.{ℕ, zero, suc, ◌+◌, ◌*◌, ◌/◌, ◌%◌, ◌≡◌, Bool, true, not, cond, ◌&&◌, ◌||◌, List, eqb, ltb, leb, length}
+use Rattle.std.specs.Prelude.{ℕ, zero, suc, ◌+◌, ◌*◌, ◌/◌, ◌%◌, ◌≡◌, Bool, true, not, cond, ◌&&◌, ◌||◌, List}
+use Rattle.std.specs.Prelude.{eqb, ltb, leb, length}
 use Rattle.std.specs.Bool.{beq}
 use Rattle.truth.specs.Bits.{bit_of, updated}
 

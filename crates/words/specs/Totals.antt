@@ -1,7 +1,8 @@
 -- How many words the equations have together, and how many one can have: all of a list have the equations of
 -- a model together, and none has more than its arguments in range.
 -- The first by taking the words one by one; the second since words that differ have other arguments.
-use Rattle.std.specs.Prelude.{ℕ, zero, suc, ◌+◌, ◌*◌, ◌≤◌, ◌<◌, ◌≡◌, Bool, true, false, cond, eqb, length, take}
+use Rattle.std.specs.Prelude.{ℕ, zero, suc, ◌+◌, ◌*◌, ◌≤◌, ◌<◌, ◌≡◌, Bool, true, false, cond, eqb, length}
+use Rattle.std.specs.Prelude.{take}
 use native.Mathlib.{Decide.dec_le, Omega.arith}
 use Rattle.std.proofs.Math.Path.{refl}
 use Rattle.std.proofs.Common.{sym, ap, ◌∙◌, ⊎_elim, length-append, eqb-true}

@@ -35,7 +35,8 @@ after_two k l =
 -- so many values from place 2 + k on, behind the code and the number of the equation, are the frame of the start
 start_bytes : {process : Process} {f : Modal} {sheet : List ℕ} (g : Given process f sheet)
     → (k : ℕ) → k ≡ length process.ranges
-    → take (2 + k) (2 ∷ 0 ∷ get_or sheet (2 + k) 0 ∷ get_or sheet (3 + k) 0 ∷ get_or sheet (4 + k) 0 ∷ get_or sheet (5 + k) 0 ∷ [])
+    → take (2 + k) (2 ∷ 0 ∷ get_or sheet (2 + k) 0 ∷ get_or sheet (3 + k) 0 ∷ get_or sheet (4 + k) 0 ∷ get_or sheet (5 + k) 0 ∷
+    [])
     ≡ start_frame (translated_start process)
 unfolding start_frame
 start_bytes {process} {f} {sheet} g k e =

@@ -14,7 +14,9 @@ use Rattle.engine.proofs.examine_model.Goals as goal
 -- as many words as were found can be lent
 pub slice_bounds-are_same-end : goal.slice_bounds-are_same-end
 slice_bounds-are_same-end c =
-    let searched : (t : List ℕ) → ReadFrom t c.args.model c.args.bodies.now → Searched t c.args.model c.args.bodies.now c.prepare-prepared.result c.args.table.now c.find-found.new.table (replicate graph_words 0) c.find-found.new.graph c.start_word-start.result c.find-found.result =
+    let searched : (t : List ℕ) → ReadFrom t c.args.model c.args.bodies.now
+    → Searched t c.args.model c.args.bodies.now c.prepare-prepared.result c.args.table.now c.find-found.new.table
+    (replicate graph_words 0) c.find-found.new.graph c.start_word-start.result c.find-found.result =
     λ t read. record {
       read = read;
       prepares = c.prepare-prepared.ensures;
@@ -26,7 +28,9 @@ slice_bounds-are_same-end c =
 
 pub slice_bounds-solution_of-end-then-and : goal.slice_bounds-solution_of-end-then-and
 slice_bounds-solution_of-end-then-and c =
-    let searched : (t : List ℕ) → ReadFrom t c.args.model c.args.bodies.now → Searched t c.args.model c.args.bodies.now c.prepare-prepared.result c.args.table.now c.find-found.new.table (replicate graph_words 0) c.find-found.new.graph c.start_word-start.result c.find-found.result =
+    let searched : (t : List ℕ) → ReadFrom t c.args.model c.args.bodies.now
+    → Searched t c.args.model c.args.bodies.now c.prepare-prepared.result c.args.table.now c.find-found.new.table
+    (replicate graph_words 0) c.find-found.new.graph c.start_word-start.result c.find-found.result =
     λ t read. record {
       read = read;
       prepares = c.prepare-prepared.ensures;
@@ -38,7 +42,9 @@ slice_bounds-solution_of-end-then-and c =
 
 pub returns-then-and : goal.returns-then-and
 returns-then-and c t read =
-    let searched : (t : List ℕ) → ReadFrom t c.args.model c.args.bodies.now → Searched t c.args.model c.args.bodies.now c.prepare-prepared.result c.args.table.now c.find-found.new.table (replicate graph_words 0) c.find-found.new.graph c.start_word-start.result c.find-found.result =
+    let searched : (t : List ℕ) → ReadFrom t c.args.model c.args.bodies.now
+    → Searched t c.args.model c.args.bodies.now c.prepare-prepared.result c.args.table.now c.find-found.new.table
+    (replicate graph_words 0) c.find-found.new.graph c.start_word-start.result c.find-found.result =
     λ t read. record {
       read = read;
       prepares = c.prepare-prepared.ensures;
@@ -51,7 +57,9 @@ returns-then-and c t read =
 
 pub returns-then-lent : goal.returns-then-lent
 returns-then-lent c t read =
-    let searched : (t : List ℕ) → ReadFrom t c.args.model c.args.bodies.now → Searched t c.args.model c.args.bodies.now c.prepare-prepared.result c.args.table.now c.find-found.new.table (replicate graph_words 0) c.find-found.new.graph c.start_word-start.result c.find-found.result =
+    let searched : (t : List ℕ) → ReadFrom t c.args.model c.args.bodies.now
+    → Searched t c.args.model c.args.bodies.now c.prepare-prepared.result c.args.table.now c.find-found.new.table
+    (replicate graph_words 0) c.find-found.new.graph c.start_word-start.result c.find-found.result =
     λ t read. record {
       read = read;
       prepares = c.prepare-prepared.ensures;
@@ -64,7 +72,9 @@ returns-then-lent c t read =
 
 pub returns : goal.returns
 returns c t read =
-    let searched : (t : List ℕ) → ReadFrom t c.args.model c.args.bodies.now → Searched t c.args.model c.args.bodies.now c.prepare-prepared.result c.args.table.now c.find-found.new.table (replicate graph_words 0) c.find-found.new.graph c.start_word-start.result c.find-found.result =
+    let searched : (t : List ℕ) → ReadFrom t c.args.model c.args.bodies.now
+    → Searched t c.args.model c.args.bodies.now c.prepare-prepared.result c.args.table.now c.find-found.new.table
+    (replicate graph_words 0) c.find-found.new.graph c.start_word-start.result c.find-found.result =
     λ t read. record {
       read = read;
       prepares = c.prepare-prepared.ensures;
@@ -77,7 +87,9 @@ returns c t read =
 
 pub slice_bounds-are_same-end-2 : goal.slice_bounds-are_same-end-2
 slice_bounds-are_same-end-2 c =
-    let searched : (t : List ℕ) → ReadFrom t c.args.model c.args.bodies.now → Searched t c.args.model c.args.bodies.now c.prepare-prepared.result c.args.table.now c.find-found.new.table (replicate graph_words 0) c.find-found.new.graph c.start_word-start.result c.find-found.result =
+    let searched : (t : List ℕ) → ReadFrom t c.args.model c.args.bodies.now
+    → Searched t c.args.model c.args.bodies.now c.prepare-prepared.result c.args.table.now c.find-found.new.table
+    (replicate graph_words 0) c.find-found.new.graph c.start_word-start.result c.find-found.result =
     λ t read. record {
       read = read;
       prepares = c.prepare-prepared.ensures;

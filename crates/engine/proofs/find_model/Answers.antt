@@ -9,7 +9,9 @@ use Rattle.engine.proofs.find_model.Goals as goal
 
 pub returns-then-found : goal.returns-then-found
 returns-then-found c t read =
-    let searched : (t : List ℕ) → ReadFrom t c.args.model c.args.bodies.now → Searched t c.args.model c.args.bodies.now c.prepare-prepared.result c.args.table.now c.find-found.new.table (replicate 1 0) c.find-found.new.graph c.start_word-start.result c.find-found.result =
+    let searched : (t : List ℕ) → ReadFrom t c.args.model c.args.bodies.now
+    → Searched t c.args.model c.args.bodies.now c.prepare-prepared.result c.args.table.now c.find-found.new.table
+    (replicate 1 0) c.find-found.new.graph c.start_word-start.result c.find-found.result =
     λ t read. record {
       read = read;
       prepares = c.prepare-prepared.ensures;
@@ -20,7 +22,9 @@ returns-then-found c t read =
 
 pub returns : goal.returns
 returns c t read =
-    let searched : (t : List ℕ) → ReadFrom t c.args.model c.args.bodies.now → Searched t c.args.model c.args.bodies.now c.prepare-prepared.result c.args.table.now c.find-found.new.table (replicate 1 0) c.find-found.new.graph c.start_word-start.result c.find-found.result =
+    let searched : (t : List ℕ) → ReadFrom t c.args.model c.args.bodies.now
+    → Searched t c.args.model c.args.bodies.now c.prepare-prepared.result c.args.table.now c.find-found.new.table
+    (replicate 1 0) c.find-found.new.graph c.start_word-start.result c.find-found.result =
     λ t read. record {
       read = read;
       prepares = c.prepare-prepared.ensures;

@@ -46,7 +46,8 @@ copy_words-requires c =
     let small = c.smaller-room.ensures in
     let least : room ≤ 512 = omega (arith, small) in
     let long = c.find_in-found.auto.table ∙ sym (lent room least) in
-    let found : FindsBefore a.bodies.now a.equations a.start room words a.graph.now c.find_in-found.new.graph c.find_in-found.result =
+    let found : FindsBefore a.bodies.now a.equations a.start room words a.graph.now c.find_in-found.new.graph
+    c.find_in-found.result =
     rw (← lent room least) at c.find_in-found.ensures in
     (omega (arith, both_long room words least long, found.few), omega (arith, small, found.few))
 
@@ -57,6 +58,7 @@ returns c =
     let words = c.find_in-found.new.table in
     let least : room ≤ 512 = omega (arith, c.smaller-room.ensures) in
     let long = c.find_in-found.auto.table ∙ sym (lent room least) in
-    let found : FindsBefore a.bodies.now a.equations a.start room words a.graph.now c.find_in-found.new.graph c.find_in-found.result =
+    let found : FindsBefore a.bodies.now a.equations a.start room words a.graph.now c.find_in-found.new.graph
+    c.find_in-found.result =
     rw (← lent room least) at c.find_in-found.ensures in
     rw (← c.smaller-room.ensures) (finds_copied (drop room zeros) long found c.copy_words.ensures)

@@ -8,7 +8,8 @@ use Rattle.finding.proofs.find_in.Given as goal
 
 abbrev pub invariant-loop-i : goal.invariant-loop-i
 invariant-loop-i l =
-    Searching l.bodies l.equations l.start l.room l.table l.found l.i × Drawing l.bodies l.equations l.start l.room l.initial.graph l.graph l.table l.found l.i
+    Searching l.bodies l.equations l.start l.room l.table l.found l.i
+    × Drawing l.bodies l.equations l.start l.room l.initial.graph l.graph l.table l.found l.i
 
 abbrev pub decreases-loop-i : goal.decreases-loop-i
 decreases-loop-i l = l.room - l.i

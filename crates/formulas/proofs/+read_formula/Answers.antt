@@ -94,7 +94,8 @@ returns-else-not-is_range t c =
       inside = omega (arith, c.if-limit-at.false, c.requires.1.1.0);
       named = c.kind_of-kind.ensures ∙ ap kind_of c.element-code.ensures;
     } in
-    let pushed : let scope = c.args.scope in (c.push.result.count ≡ scope.count + 1) × (items c.push.result ≡ items scope ++ (c.element-r.result ∷ [])) =
+    let pushed : let scope = c.args.scope in (c.push.result.count ≡ scope.count + 1)
+    × (items c.push.result ≡ items scope ++ (c.element-r.result ∷ [])) =
     c.push.ensures.1 (omega arith) in
     let p = pushed in
     law.formula_quantifier head c.in-Quantifier.is c.if-q-ge4.false
@@ -127,7 +128,8 @@ read_formula-a-requires-in-Join t c =
 
 pub read_formula-requires : goal.read_formula-requires
 read_formula-requires t c =
-    let pushed : let scope = c.args.scope in (c.push.result.count ≡ scope.count + 1) × (items c.push.result ≡ items scope ++ (c.element-r.result ∷ [])) =
+    let pushed : let scope = c.args.scope in (c.push.result.count ≡ scope.count + 1)
+    × (items c.push.result ≡ items scope ++ (c.element-r.result ∷ [])) =
     c.push.ensures.1 (omega arith) in
     omega (arith, pushed.0)
 

@@ -16,7 +16,8 @@ returns-then-not-is_valid_line c =
     let valid = c.before.before in
     let digits = valid.before.before in
     let end = digits.before.before in
-    c.refuse-then-not-is_valid_line.ensures ∙ wrong_size _ _ end.smaller-from.ensures end.line_end-end.ensures.0 digits.all_digits.ensures
+    c.refuse-then-not-is_valid_line.ensures
+    ∙ wrong_size _ _ end.smaller-from.ensures end.line_end-end.ensures.0 digits.all_digits.ensures
     (valid.if-not-all_digits.false) valid.is_valid_line.ensures (c.if-not-is_valid_line.true)
 
 pub returns : goal.returns

@@ -7,7 +7,8 @@ use Rattle.frames.specs.FrameAt.{first_length}
 use Rattle.frames.proofs.line_end.Given as goal
 
 abbrev pub invariant-loop-i : goal.invariant-loop-i
-invariant-loop-i l = ((l.at ≤ l.i) × (l.i ≤ length l.text)) × (l.at + first_length (drop l.at l.text) ≡ l.i + first_length (drop l.i l.text))
+invariant-loop-i l = ((l.at ≤ l.i) × (l.i ≤ length l.text))
+    × (l.at + first_length (drop l.at l.text) ≡ l.i + first_length (drop l.i l.text))
 
 abbrev pub decreases-loop-i : goal.decreases-loop-i
 decreases-loop-i l = length l.text - l.i

@@ -13,7 +13,8 @@ decreases-solve l = l.count - l.e
 
 abbrev pub invariant-loop-turns : goal.invariant-loop-turns
 invariant-loop-turns l =
-    (length l.current ≡ 8) × Turned (numbered_system l.bodies l.equations l.table) l.count l.e (bit_of l.initial.current) (bit_of l.current) l.turns
+    (length l.current ≡ 8)
+    × Turned (numbered_system l.bodies l.equations l.table) l.count l.e (bit_of l.initial.current) (bit_of l.current) l.turns
 
 abbrev pub decreases-loop-turns : goal.decreases-loop-turns
 decreases-loop-turns l = length l.table - l.turns

@@ -34,8 +34,11 @@ solve-requires c =
     let first_words = words a.table.now c.smaller-size.result in
     let few = c.smaller-few.result in
     let S = numbered_system a.bodies.now a.equations first_words in
-    let unsolved = first_unsolved a.bodies.now a.equations first_words few in
-    (few_words c.args.table.now c.smaller-size.result c.smaller-size.ensures, omega arith, subst (Unsolved S few 0) (sym c.first_candidates-first.ensures) unsolved)
+    let unsolved = first_unsolved a.bodies.now a.equations first_words few in (
+      few_words c.args.table.now c.smaller-size.result c.smaller-size.ensures,
+      omega arith,
+      subst (Unsolved S few 0) (sym c.first_candidates-first.ensures) unsolved,
+    )
 
 pub returns : goal.returns
 returns c =
@@ -51,4 +54,5 @@ pub slice_bounds-first_words-end : goal.slice_bounds-first_words-end
 slice_bounds-first_words-end c = sym (length-take-le _ _ (omega (arith, c.smaller-size.ensures)))
 
 pub first_candidates-first-requires : goal.first_candidates-first-requires
-first_candidates-first-requires c = (few_words c.args.table.now c.smaller-size.result c.smaller-size.ensures, omega (arith, c.smaller-few.ensures))
+first_candidates-first-requires c =
+    (few_words c.args.table.now c.smaller-size.result c.smaller-size.ensures, omega (arith, c.smaller-few.ensures))

@@ -30,7 +30,9 @@ pub returns-in-7 : goal.returns-in-7
 unfolding is_next
 returns-in-7 c =
     let code = sym c.element-code.ensures ∙ c.in-7.is in
-    let told = c.is_summand.ensures.judged c.requires.1 (omega (arith, sheet_first c.args.sheet.now (omega (arith, c.requires.0)))) in
+    let told =
+    c.is_summand.ensures.judged c.requires.1 (omega (arith, sheet_first c.args.sheet.now (omega (arith, c.requires.0))))
+    in
     let few : c.and-in-7.result ≡ leb c.args.count 16 && c.is_summand.result = c.and-in-7.ensures in
     rw (code, ← told, ← few, ← c.and-open.ensures) c.and-in-7-2.ensures
 

@@ -73,7 +73,9 @@ loop-at-preserved c =
     c.keeps_rules.ensures ∙ next_is c.loop-at.invariant.laid bytes in
     let passed : keeps_rules c.loop-at.invariant.done bytes ≡ true =
     sym kept ∙ c.if-not-keeps_rules.false in
-    let joined : let p = c.loop-at in Laid (and_frame p.invariant.done bytes) c.if-code-ne3.sheet c.if-code-ne3.count c.if-code-ne3.whole × (c.if-code-ne3.count ≤ p.count + 1) =
+    let joined : let p =
+    c.loop-at in Laid (and_frame p.invariant.done bytes) c.if-code-ne3.sheet c.if-code-ne3.count c.if-code-ne3.whole
+    × (c.if-code-ne3.count ≤ p.count + 1) =
     let f = bytes in
     let code = c.element-code.ensures in
     let l = c.loop-at.invariant.laid in

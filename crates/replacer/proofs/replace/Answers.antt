@@ -27,8 +27,10 @@ returns-then-number-eq1 c =
     let named : Named c.args.text.now c.read_model-r.result c.args.equation =
     record { read_as = read_so; within = c.if-m-equation.false } in
     let small : Small c.args.side.now = λ i. omega (arith, c.shared_slice_known-2-1.given i) in
-    let sized : let a = (c).args in length a.text.now - 2 * (known.equation named).length + 2 * c.smaller-added.result ≡ length a.text.now - 2 * (known.equation named).length + 2 * min (length a.side.now) 16385 =
-    let a = (c).args in
+    let sized : let a = c.args in
+    length a.text.now - 2 * (known.equation named).length + 2 * c.smaller-added.result ≡ length a.text.now -
+    2 * (known.equation named).length + 2 * min (length a.side.now) 16385 =
+    let a = c.args in
     ap (λ (k : ℕ). length a.text.now - 2 * (known.equation named).length + 2 * k)
     c.smaller-added.ensures in
     rw c.refuse-then-number-eq1.ensures
@@ -41,8 +43,10 @@ returns-then-number-ne0 c =
     let named : Named c.args.text.now c.read_model-r.result c.args.equation =
     record { read_as = read_so; within = c.if-m-equation.false } in
     let small : Small c.args.side.now = λ i. omega (arith, c.shared_slice_known-2-1.given i) in
-    let sized : let a = (c).args in length a.text.now - 2 * (known.equation named).length + 2 * c.smaller-added.result ≡ length a.text.now - 2 * (known.equation named).length + 2 * min (length a.side.now) 16385 =
-    let a = (c).args in
+    let sized : let a = c.args in
+    length a.text.now - 2 * (known.equation named).length + 2 * c.smaller-added.result ≡ length a.text.now -
+    2 * (known.equation named).length + 2 * min (length a.side.now) 16385 =
+    let a = c.args in
     ap (λ (k : ℕ). length a.text.now - 2 * (known.equation named).length + 2 * k)
     c.smaller-added.ensures in
     rw c.refuse-then-number-ne0.ensures
@@ -55,8 +59,10 @@ returns-then-out-size c =
     let named : Named c.args.text.now c.read_model-r.result c.args.equation =
     record { read_as = read_so; within = c.if-m-equation.false } in
     let small : Small c.args.side.now = λ i. omega (arith, c.shared_slice_known-2-1.given i) in
-    let sized : let a = (c).args in length a.text.now - 2 * (known.equation named).length + 2 * c.smaller-added.result ≡ length a.text.now - 2 * (known.equation named).length + 2 * min (length a.side.now) 16385 =
-    let a = (c).args in
+    let sized : let a = c.args in
+    length a.text.now - 2 * (known.equation named).length + 2 * c.smaller-added.result ≡ length a.text.now -
+    2 * (known.equation named).length + 2 * min (length a.side.now) 16385 =
+    let a = c.args in
     ap (λ (k : ℕ). length a.text.now - 2 * (known.equation named).length + 2 * k)
     c.smaller-added.ensures in
     rw c.refuse-then-out-size.ensures
@@ -69,8 +75,10 @@ write_parts-requires c =
     let named : Named c.args.text.now c.read_model-r.result c.args.equation =
     record { read_as = read_so; within = c.if-m-equation.false } in
     let small : Small c.args.side.now = λ i. omega (arith, c.shared_slice_known-2-1.given i) in
-    let sized : let a = (c).args in length a.text.now - 2 * (known.equation named).length + 2 * c.smaller-added.result ≡ length a.text.now - 2 * (known.equation named).length + 2 * min (length a.side.now) 16385 =
-    let a = (c).args in
+    let sized : let a = c.args in
+    length a.text.now - 2 * (known.equation named).length + 2 * c.smaller-added.result ≡ length a.text.now -
+    2 * (known.equation named).length + 2 * min (length a.side.now) 16385 =
+    let a = c.args in
     ap (λ (k : ℕ). length a.text.now - 2 * (known.equation named).length + 2 * k)
     c.smaller-added.ensures in
     let a = c.args in
@@ -84,8 +92,10 @@ returns c =
     let named : Named c.args.text.now c.read_model-r.result c.args.equation =
     record { read_as = read_so; within = c.if-m-equation.false } in
     let small : Small c.args.side.now = λ i. omega (arith, c.shared_slice_known-2-1.given i) in
-    let sized : let a = (c).args in length a.text.now - 2 * (known.equation named).length + 2 * c.smaller-added.result ≡ length a.text.now - 2 * (known.equation named).length + 2 * min (length a.side.now) 16385 =
-    let a = (c).args in
+    let sized : let a = c.args in
+    length a.text.now - 2 * (known.equation named).length + 2 * c.smaller-added.result ≡ length a.text.now -
+    2 * (known.equation named).length + 2 * min (length a.side.now) 16385 =
+    let a = c.args in
     ap (λ (k : ℕ). length a.text.now - 2 * (known.equation named).length + 2 * k)
     c.smaller-added.ensures in
     text_written named _ _ small _ sized c.side_number-number.ensures c.if-number-ne0.false c.if-out-size.false

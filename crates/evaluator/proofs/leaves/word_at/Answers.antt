@@ -14,7 +14,10 @@ unfolding word looked_terms terms_by
 returns-then-at-ge256 c =
     let a = c.args in
     let p = a.body.now in
-    rw (byte_past p (a.at + 1) (omega (arith, c.if-at-ge256.true)), byte_past p (a.at + 2) (omega (arith, c.if-at-ge256.true))) refl
+    rw (
+      byte_past p (a.at + 1) (omega (arith, c.if-at-ge256.true)),
+      byte_past p (a.at + 2) (omega (arith, c.if-at-ge256.true)),
+    ) refl
 
 -- at most four arguments
 pub arguments-got-requires : goal.arguments-got-requires

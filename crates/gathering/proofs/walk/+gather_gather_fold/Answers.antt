@@ -144,7 +144,8 @@ gather-returns-in-Instance t c =
 pub gather_fold-returns-then-decides : goal.gather_fold-returns-then-decides
 gather_fold-returns-then-decides t c =
     let a = c.args in
-    let so_far : GathersOver a.all c.loop-i.i (formula_there a.body.now (a.scope.count + 1) a.at) (items a.scope) (store a.table.now a.found.now a.reads.now) (store c.loop-i.table c.loop-i.found c.loop-i.reads) c.loop-i.a =
+    let so_far : GathersOver a.all c.loop-i.i (formula_there a.body.now (a.scope.count + 1) a.at) (items a.scope)
+    (store a.table.now a.found.now a.reads.now) (store c.loop-i.table c.loop-i.found c.loop-i.reads) c.loop-i.a =
     let p = c.push.ensures.1 (omega (arith, c.requires.2)) in
     c.loop-i.invariant.2 _ (gather_one _ _ (with_value a.body.now a.at a.scope.count 0 (items a.scope) p
     c.gather-a.ensures)) in
@@ -157,7 +158,8 @@ gather_fold-returns-then-not-looks_at t c =
     let eight : length scope.values ≡ 8 = search rules in
     length-take-le scope.count scope.values (omega (arith, eight, c.requires.2)) in
     let a = c.args in
-    let so_far : GathersOver a.all c.loop-i.i (formula_there a.body.now (a.scope.count + 1) a.at) (items a.scope) (store a.table.now a.found.now a.reads.now) (store c.loop-i.table c.loop-i.found c.loop-i.reads) c.loop-i.a =
+    let so_far : GathersOver a.all c.loop-i.i (formula_there a.body.now (a.scope.count + 1) a.at) (items a.scope)
+    (store a.table.now a.found.now a.reads.now) (store c.loop-i.table c.loop-i.found c.loop-i.reads) c.loop-i.a =
     let p = c.push.ensures.1 (omega (arith, c.requires.2)) in
     c.loop-i.invariant.2 _ (gather_one _ _ (with_value a.body.now a.at a.scope.count 0 (items a.scope) p
     c.gather-a.ensures)) in
@@ -168,7 +170,8 @@ gather_fold-returns-then-not-looks_at t c =
 pub gather_fold-gather-b-requires : goal.gather_fold-gather-b-requires
 gather_fold-gather-b-requires t c =
     let a = c.args in
-    let so_far : GathersOver a.all c.loop-i.i (formula_there a.body.now (a.scope.count + 1) a.at) (items a.scope) (store a.table.now a.found.now a.reads.now) (store c.loop-i.table c.loop-i.found c.loop-i.reads) c.loop-i.a =
+    let so_far : GathersOver a.all c.loop-i.i (formula_there a.body.now (a.scope.count + 1) a.at) (items a.scope)
+    (store a.table.now a.found.now a.reads.now) (store c.loop-i.table c.loop-i.found c.loop-i.reads) c.loop-i.a =
     let p = c.push.ensures.1 (omega (arith, c.requires.2)) in
     c.loop-i.invariant.2 _ (gather_one _ _ (with_value a.body.now a.at a.scope.count 0 (items a.scope) p
     c.gather-a.ensures)) in
@@ -185,14 +188,18 @@ gather_fold-loop-i-preserved t c =
     let p = c.push-in-loop-i.ensures.1 (omega (arith, c.requires.2)) in
     let a = c.args in
     let k = a.scope.count in
-    let next = with_value a.body.now a.at k c.loop-i.i (items a.scope) p c.gather-b.ensures in
-    (omega arith, omega arith, λ s g. rw c.joined-a.ensures (gather_next _ _ c.loop-i.invariant.0 (c.loop-i.invariant.2 s g) next))
+    let next = with_value a.body.now a.at k c.loop-i.i (items a.scope) p c.gather-b.ensures in (
+      omega arith,
+      omega arith,
+      λ s g. rw c.joined-a.ensures (gather_next _ _ c.loop-i.invariant.0 (c.loop-i.invariant.2 s g) next),
+    )
 
 -- all values are gone through
 pub gather_fold-returns : goal.gather_fold-returns
 gather_fold-returns t c =
     let a = c.args in
-    let so_far : GathersOver a.all c.loop-i.i (formula_there a.body.now (a.scope.count + 1) a.at) (items a.scope) (store a.table.now a.found.now a.reads.now) (store c.loop-i.table c.loop-i.found c.loop-i.reads) c.loop-i.a =
+    let so_far : GathersOver a.all c.loop-i.i (formula_there a.body.now (a.scope.count + 1) a.at) (items a.scope)
+    (store a.table.now a.found.now a.reads.now) (store c.loop-i.table c.loop-i.found c.loop-i.reads) c.loop-i.a =
     let p = c.push.ensures.1 (omega (arith, c.requires.2)) in
     c.loop-i.invariant.2 _ (gather_one _ _ (with_value a.body.now a.at a.scope.count 0 (items a.scope) p
     c.gather-a.ensures)) in
@@ -224,7 +231,8 @@ gather_fold-loop-i-init t c = (
 pub gather_fold-shape_of-table-then-decides : goal.gather_fold-shape_of-table-then-decides
 gather_fold-shape_of-table-then-decides t c =
     let a = c.args in
-    let so_far : GathersOver a.all c.loop-i.i (formula_there a.body.now (a.scope.count + 1) a.at) (items a.scope) (store a.table.now a.found.now a.reads.now) (store c.loop-i.table c.loop-i.found c.loop-i.reads) c.loop-i.a =
+    let so_far : GathersOver a.all c.loop-i.i (formula_there a.body.now (a.scope.count + 1) a.at) (items a.scope)
+    (store a.table.now a.found.now a.reads.now) (store c.loop-i.table c.loop-i.found c.loop-i.reads) c.loop-i.a =
     let p = c.push.ensures.1 (omega (arith, c.requires.2)) in
     c.loop-i.invariant.2 _ (gather_one _ _ (with_value a.body.now a.at a.scope.count 0 (items a.scope) p
     c.gather-a.ensures)) in
@@ -233,7 +241,8 @@ gather_fold-shape_of-table-then-decides t c =
 pub gather_fold-shape_of-table-then-not-looks_at : goal.gather_fold-shape_of-table-then-not-looks_at
 gather_fold-shape_of-table-then-not-looks_at t c =
     let a = c.args in
-    let so_far : GathersOver a.all c.loop-i.i (formula_there a.body.now (a.scope.count + 1) a.at) (items a.scope) (store a.table.now a.found.now a.reads.now) (store c.loop-i.table c.loop-i.found c.loop-i.reads) c.loop-i.a =
+    let so_far : GathersOver a.all c.loop-i.i (formula_there a.body.now (a.scope.count + 1) a.at) (items a.scope)
+    (store a.table.now a.found.now a.reads.now) (store c.loop-i.table c.loop-i.found c.loop-i.reads) c.loop-i.a =
     let p = c.push.ensures.1 (omega (arith, c.requires.2)) in
     c.loop-i.invariant.2 _ (gather_one _ _ (with_value a.body.now a.at a.scope.count 0 (items a.scope) p
     c.gather-a.ensures)) in
@@ -242,7 +251,8 @@ gather_fold-shape_of-table-then-not-looks_at t c =
 pub gather_fold-shape_of-table : goal.gather_fold-shape_of-table
 gather_fold-shape_of-table t c =
     let a = c.args in
-    let so_far : GathersOver a.all c.loop-i.i (formula_there a.body.now (a.scope.count + 1) a.at) (items a.scope) (store a.table.now a.found.now a.reads.now) (store c.loop-i.table c.loop-i.found c.loop-i.reads) c.loop-i.a =
+    let so_far : GathersOver a.all c.loop-i.i (formula_there a.body.now (a.scope.count + 1) a.at) (items a.scope)
+    (store a.table.now a.found.now a.reads.now) (store c.loop-i.table c.loop-i.found c.loop-i.reads) c.loop-i.a =
     let p = c.push.ensures.1 (omega (arith, c.requires.2)) in
     c.loop-i.invariant.2 _ (gather_one _ _ (with_value a.body.now a.at a.scope.count 0 (items a.scope) p
     c.gather-a.ensures)) in

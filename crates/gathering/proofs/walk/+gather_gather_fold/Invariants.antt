@@ -19,7 +19,8 @@ invariant-gather_fold-loop-i l =
     let f = formula_there l.body (l.scope.count + 1) l.at in
     let over : ℕ → Store → Store → Left → Type 0 = λ n. GathersOver l.all n f (items l.scope) in
     (0 < l.i) × (l.i ≤ l.r)
-    × ((s : Store) → over 1 s (store l.initial.table l.initial.found l.initial.reads) l.initial.a → over l.i s (store l.table l.found l.reads) l.a)
+    × ((s : Store) → over 1 s (store l.initial.table l.initial.found l.initial.reads) l.initial.a
+    → over l.i s (store l.table l.found l.reads) l.a)
 
 abbrev pub decreases-gather_fold-loop-i : goal.decreases-gather_fold-loop-i
 decreases-gather_fold-loop-i l = l.r - l.i

@@ -9,12 +9,22 @@ use Rattle.preparing.proofs.codes.width_of.Goals as goal
 pub returns-then-code-lt32 : goal.returns-then-code-lt32
 unfolding width_of
 returns-then-code-lt32 c =
-    simp (ne_eqb c.args.code 0x14 (λ h. omega arith), ne_eqb c.args.code 0x15 (λ h. omega arith), ne_eqb c.args.code 0x1a (λ h. omega arith), lt-ltb _ 0x20 c.if-code-lt32.true)
+    simp (
+      ne_eqb c.args.code 0x14 (λ h. omega arith),
+      ne_eqb c.args.code 0x15 (λ h. omega arith),
+      ne_eqb c.args.code 0x1a (λ h. omega arith),
+      lt-ltb _ 0x20 c.if-code-lt32.true,
+    )
 
 pub returns-else-code-lt32 : goal.returns-else-code-lt32
 unfolding width_of
 returns-else-code-lt32 c =
-    simp (ne_eqb c.args.code 0x14 (λ h. omega arith), ne_eqb c.args.code 0x15 (λ h. omega arith), ne_eqb c.args.code 0x1a (λ h. omega arith), le-ltb _ 0x20 c.if-code-lt32.false)
+    simp (
+      ne_eqb c.args.code 0x14 (λ h. omega arith),
+      ne_eqb c.args.code 0x15 (λ h. omega arith),
+      ne_eqb c.args.code 0x1a (λ h. omega arith),
+      le-ltb _ 0x20 c.if-code-lt32.false,
+    )
 
 pub returns-in-20 : goal.returns-in-20
 unfolding width_of

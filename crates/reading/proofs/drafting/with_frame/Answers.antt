@@ -11,7 +11,11 @@ with_equation-requires c = c.requires.1 (sym c.element-code.ensures ∙ c.in-1.i
 
 pub returns-in_default : goal.returns-in_default
 returns-in_default c =
-    rw (← c.element-code.ensures, ne_eqb c.element-code.result 1 (λ h. omega arith), ne_eqb c.element-code.result 2 (λ h. omega arith))
+    rw (
+      ← c.element-code.ensures,
+      ne_eqb c.element-code.result 1 (λ h. omega arith),
+      ne_eqb c.element-code.result 2 (λ h. omega arith),
+    )
 
 pub equation_record-requires : goal.equation_record-requires
 equation_record-requires c = c.requires.0

@@ -30,7 +30,9 @@ returns-then-count-ge8 c =
 
 pub returns-then-not-is_valid_head : goal.returns-then-not-is_valid_head
 returns-then-not-is_valid_head c =
-    let judged : (head body : Bool) → let a = c.args in c.is_valid_head.result ≡ head → body ≡ is_body (body_in a.frame.now) (ranges_in a.frame.now) → cond head (cond body 0 6) 5 ≡ equation_refusal a.count (not a.started) a.frame.now =
+    let judged : (head body : Bool) → let a = c.args in c.is_valid_head.result ≡ head
+    → body ≡ is_body (body_in a.frame.now) (ranges_in a.frame.now)
+    → cond head (cond body 0 6) 5 ≡ equation_refusal a.count (not a.started) a.frame.now =
     λ head body h. equation_judged _ _ c.if-started.false c.if-count-ge8.false
     (sym h ∙ head_is _ c.equation_record-e.ensures c.is_valid_head.ensures) in
     judged _ _ (c.if-not-is_valid_head.true) refl
@@ -40,20 +42,26 @@ slice_bounds-is_body-start c = slice_bounds-is_body-count c
 
 pub returns-then-not-is_body : goal.returns-then-not-is_body
 returns-then-not-is_body c =
-    let judged : (head body : Bool) → let a = c.args in c.is_valid_head.result ≡ head → body ≡ is_body (body_in a.frame.now) (ranges_in a.frame.now) → cond head (cond body 0 6) 5 ≡ equation_refusal a.count (not a.started) a.frame.now =
+    let judged : (head body : Bool) → let a = c.args in c.is_valid_head.result ≡ head
+    → body ≡ is_body (body_in a.frame.now) (ranges_in a.frame.now)
+    → cond head (cond body 0 6) 5 ≡ equation_refusal a.count (not a.started) a.frame.now =
     λ head body h. equation_judged _ _ c.if-started.false c.if-count-ge8.false
     (sym h ∙ head_is _ c.equation_record-e.ensures c.is_valid_head.ensures) in
-    let valid : (body : Bool) → let a = c.args in c.is_body.result ≡ body → cond body 0 6 ≡ equation_refusal a.count (not a.started) a.frame.now =
+    let valid : (body : Bool) → let a = c.args in c.is_body.result ≡ body
+    → cond body 0 6 ≡ equation_refusal a.count (not a.started) a.frame.now =
     λ body b. judged _ _ (c.if-not-is_valid_head.false)
     (sym b ∙ body_is _ c.equation_record-e.ensures c.wide-head.ensures.0 c.is_body.ensures) in
     valid _ (c.if-not-is_body.true)
 
 pub returns : goal.returns
 returns c =
-    let judged : (head body : Bool) → let a = c.args in c.is_valid_head.result ≡ head → body ≡ is_body (body_in a.frame.now) (ranges_in a.frame.now) → cond head (cond body 0 6) 5 ≡ equation_refusal a.count (not a.started) a.frame.now =
+    let judged : (head body : Bool) → let a = c.args in c.is_valid_head.result ≡ head
+    → body ≡ is_body (body_in a.frame.now) (ranges_in a.frame.now)
+    → cond head (cond body 0 6) 5 ≡ equation_refusal a.count (not a.started) a.frame.now =
     λ head body h. equation_judged _ _ c.if-started.false c.if-count-ge8.false
     (sym h ∙ head_is _ c.equation_record-e.ensures c.is_valid_head.ensures) in
-    let valid : (body : Bool) → let a = c.args in c.is_body.result ≡ body → cond body 0 6 ≡ equation_refusal a.count (not a.started) a.frame.now =
+    let valid : (body : Bool) → let a = c.args in c.is_body.result ≡ body
+    → cond body 0 6 ≡ equation_refusal a.count (not a.started) a.frame.now =
     λ body b. judged _ _ (c.if-not-is_valid_head.false)
     (sym b ∙ body_is _ c.equation_record-e.ensures c.wide-head.ensures.0 c.is_body.ensures) in
     valid _ (c.if-not-is_body.false)

@@ -20,8 +20,12 @@ returns-then-word-i-gt57 c =
 
 pub loop-i-preserved : goal.loop-i-preserved
 loop-i-preserved c =
-    let loop = c.loop-i in
-    (loop.invariant.0, omega arith, loop.invariant.2 ∙ decimal_yes _ _ c.loop-i-test.true c.if-word-i-lt48.false c.if-word-i-gt57.false)
+    let loop = c.loop-i in (
+      loop.invariant.0,
+      omega arith,
+      loop.invariant.2
+          ∙ decimal_yes _ _ c.loop-i-test.true c.if-word-i-lt48.false c.if-word-i-gt57.false,
+    )
 
 pub returns : goal.returns
 returns c =

@@ -15,7 +15,8 @@ returns-then-row_has c g =
 
 pub returns-then-row_has-2 : goal.returns-then-row_has-2
 returns-then-row_has-2 c g =
-    let judged : c.plain_value-then-row_has-2.result ≡ plain_of c.args.graph.now c.args.j _ false = c.plain_value-then-row_has-2.ensures in
+    let judged : c.plain_value-then-row_has-2.result ≡ plain_of c.args.graph.now c.args.j _ false =
+    c.plain_value-then-row_has-2.ensures in
     judged
     ∙ plain_judged g false c.args.j c.requires (sym c.row_has-2.ensures ∙ c.if-row_has-2.true) _
 

@@ -8,7 +8,8 @@ use Rattle.truth.proofs.rows.with_unlike.Given as goal
 
 abbrev pub invariant-loop-word : goal.invariant-loop-word
 invariant-loop-word l =
-    (l.word ≤ 8) × Filled (Word (joined (bit_of l.initial.s) (unlike_in (row_of l.rows l.i) (bit_of l.t) l.b))) l.initial.s 0 l.word l.s
+    (l.word ≤ 8)
+    × Filled (Word (joined (bit_of l.initial.s) (unlike_in (row_of l.rows l.i) (bit_of l.t) l.b))) l.initial.s 0 l.word l.s
 
 abbrev pub decreases-loop-word : goal.decreases-loop-word
 decreases-loop-word l = 8 - l.word
