@@ -83,7 +83,7 @@ returns-then-not-is_range t c =
       named = c.kind_of-kind.ensures ∙ ap kind_of c.element-code.ensures;
     } in
     rw c.result-then-not-is_range.ensures
-    (law.formula_quantifier_no head c.in-Quantifier.is c.if-q-ge4.false
+    (law.formula_quantifier_no head c.in-Quantifier.is (omega arith)
     c.element-r.ensures (sym c.is_range.ensures ∙ c.if-not-is_range.true))
 
 pub returns-else-not-is_range : goal.returns-else-not-is_range
@@ -98,7 +98,7 @@ returns-else-not-is_range t c =
     × (items c.push.result ≡ items scope ++ (c.element-r.result ∷ [])) =
     c.push.ensures.1 (omega arith) in
     let p = pushed in
-    law.formula_quantifier head c.in-Quantifier.is c.if-q-ge4.false
+    law.formula_quantifier head c.in-Quantifier.is (omega arith)
     c.element-r.ensures (sym c.is_range.ensures ∙ c.if-not-is_range.false)
     (rw (p.1, p.0) at c.read_formula.ensures) (λ f x. x)
 

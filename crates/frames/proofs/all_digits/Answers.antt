@@ -13,7 +13,7 @@ returns-then-worth-gt15 c =
 pub loop-i-preserved : goal.loop-i-preserved
 loop-i-preserved c =
     let turn = c.before.before.before in
-    (omega arith, turn.loop-i.invariant.1 ∙ digits_yes _ _ turn.loop-i-test.true c.worth.ensures c.if-worth-gt15.false)
+    (omega arith, turn.loop-i.invariant.1 ∙ digits_yes _ _ turn.loop-i-test.true c.worth.ensures (omega arith))
 
 pub returns : goal.returns
 returns c = sym (c.loop-i.invariant.1 ∙ digits_none _ _ c.loop-i-test.false)

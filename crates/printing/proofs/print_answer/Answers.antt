@@ -8,14 +8,14 @@ use Rattle.printing.proofs.print_answer.Goals as goal
 
 pub put_answer-requires : goal.put_answer-requires
 put_answer-requires c =
-    (printable (told_checked c.examine-e.ensures refl), omega (arith, c.if-out-lt7693.false))
+    (printable (told_checked c.examine-e.ensures refl), omega arith)
 
 pub returns : goal.returns
 unfolding printed
 returns c =
     let x = c.examine-e.ensures in
     let is = printed_is (told_checked x refl) in
-    buffer_written (printed_short _) (omega (arith, c.if-out-lt7693.false))
+    buffer_written (printed_short _) (omega arith)
     (rw (is, x.answered) at c.put_answer.ensures)
 
 pub returns-then-out-lt7693 : goal.returns-then-out-lt7693

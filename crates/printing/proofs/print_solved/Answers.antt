@@ -8,13 +8,13 @@ use Rattle.printing.proofs.print_solved.Goals as goal
 
 pub put_answer-requires : goal.put_answer-requires
 put_answer-requires c =
-    (printable (told_solved c.solve-e.ensures), omega (arith, c.if-room-lt7693.false))
+    (printable (told_solved c.solve-e.ensures), omega arith)
 
 pub returns : goal.returns
 unfolding printed_solved
 returns c =
     let x = c.solve-e.ensures in
-    buffer_written (printed_solved_short _ _) (omega (arith, c.if-room-lt7693.false))
+    buffer_written (printed_solved_short _ _) (omega arith)
     (rw (printed_is (told_solved x), x.answered) at c.put_answer.ensures)
 
 pub returns-then-room-lt7693 : goal.returns-then-room-lt7693

@@ -27,13 +27,13 @@ loop-at-init c =
     let t = c.args.text.now in
     record {
       done = [];
-      short = c.if-text-gt32768.false;
+      short = omega arith;
       near = omega arith;
       early = omega arith;
       begins = turn.first_begins t;
       drafted = drafted_none (line_place t) (c.no_model-m.ensures (line_place t)) c.requires;
-      left = unfold text_refusal in ap (judged []) (turn.frames_begin t c.if-text-gt32768.false);
-      whole = ap (λ (fs : Frames). fs.all) (turn.frames_begin t c.if-text-gt32768.false);
+      left = unfold text_refusal in ap (judged []) (turn.frames_begin t (omega arith));
+      whole = ap (λ (fs : Frames). fs.all) (turn.frames_begin t (omega arith));
     }
 
 pub returns-then-f-ne0 : goal.returns-then-f-ne0

@@ -7,7 +7,7 @@ use Rattle.translator.proofs.print_translation.Goals as goal
 
 pub returns : goal.returns
 returns c =
-    translation_shown _ c.translate-reply.ensures c.show.ensures (omega (arith, c.if-out-lt4117.false))
+    translation_shown _ c.translate-reply.ensures c.show.ensures (omega arith)
 
 pub returns-then-out-lt4117 : goal.returns-then-out-lt4117
 returns-then-out-lt4117 c = small_buffer (omega arith)

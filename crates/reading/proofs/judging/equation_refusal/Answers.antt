@@ -33,7 +33,7 @@ returns-then-not-is_valid_head c =
     let judged : (head body : Bool) → let a = c.args in c.is_valid_head.result ≡ head
     → body ≡ is_body (body_in a.frame.now) (ranges_in a.frame.now)
     → cond head (cond body 0 6) 5 ≡ equation_refusal a.count (not a.started) a.frame.now =
-    λ head body h. equation_judged _ _ c.if-started.false c.if-count-ge8.false
+    λ head body h. equation_judged _ _ c.if-started.false (omega arith)
     (sym h ∙ head_is _ c.equation_record-e.ensures c.is_valid_head.ensures) in
     judged _ _ (c.if-not-is_valid_head.true) refl
 
@@ -45,7 +45,7 @@ returns-then-not-is_body c =
     let judged : (head body : Bool) → let a = c.args in c.is_valid_head.result ≡ head
     → body ≡ is_body (body_in a.frame.now) (ranges_in a.frame.now)
     → cond head (cond body 0 6) 5 ≡ equation_refusal a.count (not a.started) a.frame.now =
-    λ head body h. equation_judged _ _ c.if-started.false c.if-count-ge8.false
+    λ head body h. equation_judged _ _ c.if-started.false (omega arith)
     (sym h ∙ head_is _ c.equation_record-e.ensures c.is_valid_head.ensures) in
     let valid : (body : Bool) → let a = c.args in c.is_body.result ≡ body
     → cond body 0 6 ≡ equation_refusal a.count (not a.started) a.frame.now =
@@ -58,7 +58,7 @@ returns c =
     let judged : (head body : Bool) → let a = c.args in c.is_valid_head.result ≡ head
     → body ≡ is_body (body_in a.frame.now) (ranges_in a.frame.now)
     → cond head (cond body 0 6) 5 ≡ equation_refusal a.count (not a.started) a.frame.now =
-    λ head body h. equation_judged _ _ c.if-started.false c.if-count-ge8.false
+    λ head body h. equation_judged _ _ c.if-started.false (omega arith)
     (sym h ∙ head_is _ c.equation_record-e.ensures c.is_valid_head.ensures) in
     let valid : (body : Bool) → let a = c.args in c.is_body.result ≡ body
     → cond body 0 6 ≡ equation_refusal a.count (not a.started) a.frame.now =

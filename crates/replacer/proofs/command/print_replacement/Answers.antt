@@ -13,12 +13,12 @@ use Rattle.replacer.proofs.command.print_replacement.Goals as goal
 pub returns-then-not-is_number : goal.returns-then-not-is_number
 returns-then-not-is_number c =
     wrong_number _ _ _ (sym c.is_number.ensures ∙ c.if-not-is_number.true)
-    (omega (arith, c.if-out-lt32768.false))
+    (omega arith)
 
 pub returns-then-not-is_bytes : goal.returns-then-not-is_bytes
 returns-then-not-is_bytes c =
     wrong_side _ _ _ (sym c.is_number.ensures ∙ c.if-not-is_number.false)
-    (sym c.is_bytes.ensures ∙ c.if-not-is_bytes.true) (omega (arith, c.if-out-lt32768.false))
+    (sym c.is_bytes.ensures ∙ c.if-not-is_bytes.true) (omega arith)
 
 pub slice_bounds-list-end : goal.slice_bounds-list-end
 slice_bounds-list-end c = let d = c.decode-count.ensures in omega (arith, d.counted, d.long)
@@ -36,7 +36,7 @@ returns c =
     replacement_shown _ _ _ (sym c.is_number.ensures ∙ c.if-not-is_number.false)
     (sym c.is_bytes.ensures ∙ c.if-not-is_bytes.false) c.named_by.ensures
     (d.decoded ∙ ap (λ (n : ℕ). take n (bytes_of side)) cut) c.replace-reply.ensures c.show.ensures
-    (omega (arith, c.if-out-lt32768.false))
+    (omega arith)
 
 pub returns-then-out-lt32768 : goal.returns-then-out-lt32768
 returns-then-out-lt32768 c = small_buffer (omega arith)
