@@ -7,17 +7,15 @@ ghost use Rattle.std.specs.Prelude.{◌≡◌, length};
 
 use std::env::FillError;
 use std::io;
-use std::io::Read;
 use std::rt::Env;
 
 fn main(rt: HostRuntime) -> io::Result<()> {
-    let mut text = Vec::new(rt.alloc());
-    // One byte more than a text may have: a longer input is refused as this one is.
-    rt.reader().take(32769).read_to_end(&mut text)?;
+    let mut text = text_buffer();
+    let read = streams::read_full(&rt, &mut text)?;
     let mut name = [0u8; 16];
     match rt.arg(1, &mut name) {
-        Ok(size) => run(&rt, &name[..size], &text),
-        Err(FillError::NotPresent) => check(&rt, &text),
+        Ok(size) => run(&rt, &name[..size], &text[..read]),
+        Err(FillError::NotPresent) => check(&rt, &text[..read]),
         Err(FillError::TooLong) => Ok(()),
     }
 }
@@ -86,7 +84,7 @@ fn word_buffer() -> [u8; 131072]
     [0; 131072]
 }
 
-// One byte more than a text may have.
+// One byte more than a text may have: a longer input is refused as this one is.
 fn text_buffer() -> [u8; 32769]
     ensures { 32769 ≡ length result }
 {

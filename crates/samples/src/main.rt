@@ -15,7 +15,7 @@ use std::io::Input;
 
 // Reads a text as long as the buffer and prints its answer.
 fn answer(rt: &(impl Input + Print), buffer: &mut [u8]) -> io::Result<()> {
-    let n = sampling::read_full(rt, buffer)?;
+    let n = streams::read_full(rt, buffer)?;
     let mut out = sampling::answer_buffer();
     let written = checker::devashtor_check(&buffer[..n], &mut out);
     rt.write_all(&out[..written])?;
@@ -31,7 +31,7 @@ fn model_buffer() -> [u8; 4117]
 
 // Reads a text as long as the buffer and prints its translation.
 fn translation(rt: &(impl Input + Print), buffer: &mut [u8]) -> io::Result<()> {
-    let n = sampling::read_full(rt, buffer)?;
+    let n = streams::read_full(rt, buffer)?;
     let mut out = model_buffer();
     let written = translator::print_translation(&buffer[..n], &mut out);
     rt.write_all(&out[..written])?;
@@ -60,8 +60,8 @@ fn print_edited(rt: &impl Print, text: &[u8], words: &[u8]) -> io::Result<()> {
 
 // Reads the words and a text, each as long as its buffer, and edits.
 fn replacement(rt: &(impl Input + Print), buffer: &mut [u8], words: &mut [u8]) -> io::Result<()> {
-    let got = sampling::read_full(rt, words)?;
-    let n = sampling::read_full(rt, buffer)?;
+    let got = streams::read_full(rt, words)?;
+    let n = streams::read_full(rt, buffer)?;
     print_edited(rt, &buffer[..n], &words[..got])
 }
 
@@ -111,7 +111,7 @@ fn large_buffer() -> [u8; 65536]
 // One text; false where there is none left.
 fn turn(rt: &(impl Input + Print)) -> io::Result<bool> {
     let mut head = [0; 9];
-    let got = sampling::read_full(rt, &mut head)?;
+    let got = streams::read_full(rt, &mut head)?;
     if got < 9 {
         return Ok(false);
     }

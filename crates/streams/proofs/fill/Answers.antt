@@ -1,10 +1,10 @@
--- `sampling::fill` meets its contract.
+-- `streams::fill` meets its contract.
 -- A read goes on where the one before it ended, in the reader and in the buffer.
 use Rattle.std.proofs.Common.{rules, subst, length, ◌-◌}
 use Rattle.std.specs.Io.KnownBytes.{Consumes}
 use Rattle.std.proofs.KnownBytes.{Consumes-trans}
-use Rattle.sampling.proofs.Parts.{written_more}
-use Rattle.sampling.proofs.fill.Goals as goal
+use Rattle.streams.proofs.Parts.{written_more}
+use Rattle.streams.proofs.fill.Goals as goal
 
 pub loop-done-preserved : goal.loop-done-preserved
 loop-done-preserved g c =

@@ -1,8 +1,8 @@
--- `sampling::fill` is safe and ends, and what it has put into the buffer are the reader's next bytes.
+-- `streams::fill` is safe and ends, and what it has put into the buffer are the reader's next bytes.
 -- What is done lies in the buffer, which keeps its length; a read that ends nothing makes it more.
 use Rattle.std.proofs.Common.{length, take, ◌-◌, ◌≡◌, ◌≤◌}
 use Rattle.std.specs.Io.KnownBytes.{Consumes}
-use Rattle.sampling.proofs.fill.Given as goal
+use Rattle.streams.proofs.fill.Given as goal
 
 abbrev pub invariant-loop-done : goal.invariant-loop-done
 invariant-loop-done g l =
