@@ -99,17 +99,38 @@ fn of_function(text: &str) -> String {
     })
 }
 
-/// Code, written as specs are: what it uses, structs and enums, and the contracts of public functions.
+/// Code with what stands in an `impl` at the margin, and with a type for the parameter T that a file binds.
+fn flat(code: &str) -> String {
+    let mut inside = false;
+    let code = &if code.contains("<T>") {
+        code.replace("<T>", "").replace(": T,", ": Type,").replace(": T)", ": Type)")
+    } else {
+        code.to_string()
+    };
+    let line = |l: &str| {
+        let edge = (l.starts_with("impl") && l.ends_with('{')) || (inside && l == "}");
+        inside = if edge { !inside } else { inside };
+        let l = if inside { l.strip_prefix("    ").unwrap_or(l) } else { l };
+        if edge { String::new() } else { format!("{l}\n") }
+    };
+    code.lines().map(line).collect()
+}
+
+/// Code, written as specs are: what it uses, structs and enums, and the contracts of public functions and what a
+/// conversion gives.
 fn as_specs(in_crate: &str, code: &str) -> String {
     let mut specs = String::new();
-    let code = code.replace("crate::", &format!("{in_crate}::"));
+    let code = flat(code).replace("crate::", &format!("{in_crate}::"));
     for paragraph in format!("\n{code}").replace("\n//", "\n--").replace("\n#", "\n--").split("\n\n") {
         let paragraph = paragraph.replace(['[', ']', '&'], " ").replace(": ", " : ");
         let lines = || paragraph.lines().filter(|l| !l.starts_with("--"));
         for used in lines().collect::<Vec<_>>().join(" ").split(';').map(str::trim) {
             // a function may be named as the definition that it computes, and a contract means that one
             specs.insert_str(0, &used.strip_prefix("use ").map_or(String::new(), used_in_code));
-            specs += &used.strip_prefix("ghost ").map_or(String::new(), |l| format!("{l}\n"));
+            specs += &used.strip_prefix("ghost ").map_or(String::new(), |l| match l.split_once(" = ") {
+                Some((gives, what)) => format!("pub {gives} : {what}\n"),
+                None => format!("{l}\n"),
+            });
         }
         let head = lines().next().unwrap_or("");
         if head.starts_with("pub ") && one_of("fn", head) {
@@ -119,7 +140,7 @@ fn as_specs(in_crate: &str, code: &str) -> String {
             let text = of_function(&text);
             specs += &format!("pub fn·{}\n", text.split("fn ").nth(1).unwrap_or("")).replacen('(', " : (", 1);
         } else if one_of("struct", head) || one_of("enum", head) {
-            let declared = paragraph.replace("pub(crate) ", "pub ");
+            let declared = paragraph.replace("pub(crate) ", "pub ").replace(['<', '>'], " ");
             specs += &format!("\n{}\n", declared.replace("\n    ", "\n  ").replace("\n}", "\n  }"));
         }
     }

@@ -1,4 +1,5 @@
-// Small steps on bytes, numbers and truth values that every crate takes.
+// Small steps on bytes, numbers and truth values. Five of them, all but `element`, are std's by other names,
+// and callers take std's; they stay for what they promise (`one_wide` to `one_rest`).
 #![tactic(auto)]
 
 ghost use Rattle.std.specs.Prelude.{◌≡◌, true, cond, ◌&&◌, ◌-◌, ◌<◌, min, get_or};
@@ -7,39 +8,39 @@ ghost use Rattle.std.specs.Prelude.{◌≡◌, true, cond, ◌&&◌, ◌-◌, �
 pub fn wide(x: u8) -> usize
     ensures { (result ≡ x) × (result < 256) }
 {
-    x as usize
+    usize::from(x)
 }
 
 // Whether both hold.
 pub fn and(a: bool, b: bool) -> bool
     ensures { result ≡ a && b }
 {
-    if a { b } else { false }
+    a && b
 }
 
 // Whether b holds where a does.
 pub fn implies(a: bool, b: bool) -> bool
     ensures { result ≡ cond a b true }
 {
-    if a { b } else { true }
+    !a || b
 }
 
 pub fn smaller(a: usize, b: usize) -> usize
     ensures { result ≡ min a b }
 {
-    if a <= b { a } else { b }
+    a.min(b)
 }
 
 // What is left of a when b is taken away: 0 where b is greater.
 pub fn rest(a: usize, b: usize) -> usize
     ensures { result ≡ a - b }
 {
-    if b <= a { a - b } else { 0 }
+    a.saturating_sub(b)
 }
 
-// What stands at `i` of a list of bytes; 0 past its end.
+// What stands at `i` of a list of bytes; 0 past its end: `get_or` in its promise names it.
 pub fn element(list: &[u8], i: usize) -> u8
     ensures { result ≡ get_or list.now i 0 }
 {
-    if i < list.len() { list[i] } else { 0 }
+    list.get(i).copied().unwrap_or(0)
 }

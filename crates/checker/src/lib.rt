@@ -26,14 +26,14 @@ pub fn devashtor_check(text: &[u8], out: &mut [u8]) -> usize
 pub fn devashtor_find(text: &[u8], table: &mut [u32]) -> u64
     ensures { FindsForC text.now table.old result table.new }
 {
-    let e = engine::find(text, table);
-    let a = e.answer;
-    let found = Writing {
-        number: a.number,
-        line: a.line,
-        length: a.reached,
-    };
-    reply_word(found)
+    match engine::find(text, table) {
+        Ok(e) => reply_word(Writing {
+            number: 0,
+            line: 0,
+            length: e.answer.reached,
+        }),
+        Err(r) => reply_word(Writing::from(r.refusal)),
+    }
 }
 
 // For the image builder, in C: writes what the checking program prints for a text into the lent buffer, where
@@ -64,6 +64,7 @@ pub fn devashtor_replace(text: &[u8], equation: usize, side: &[u8], out: &mut [u
     reply_word(replacer::replace(text, equation, side, out))
 }
 
+// A function, and no conversion by `From`: it takes replies whose line is small.
 fn reply_word(r: Writing) -> u64
     requires { r.line ≤ 32769 }
     ensures { result ≡ reply_word r }
@@ -71,7 +72,7 @@ fn reply_word(r: Writing) -> u64
     if r.number == 0 {
         return r.length as u64;
     }
-    let number = r.number as u64;
+    let number = u64::from(r.number);
     let line = r.line as u64;
     0x8000000000000000 + number * 0x100000000 + line
 }

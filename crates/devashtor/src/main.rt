@@ -3,14 +3,24 @@
 // `replace E SIDE` a model, of which one right side is replaced. With any other word nothing is printed.
 #![tactic(auto)]
 
-ghost use Rattle.std.specs.Prelude.{◌≡◌, length};
-
 use std::env::FillError;
 use std::io;
 use std::rt::Env;
 
+// One byte more than a text may have: a longer input is refused as this one is.
+const TEXT_SIZE: usize = 32769;
+
+// As many bytes as the longest answer takes.
+const ANSWER_SIZE: usize = 7693;
+
+// As many bytes as the longest text of a model takes.
+const MODEL_SIZE: usize = 4117;
+
+// As many bytes as a word of a command line may have on Linux.
+const WORD_SIZE: usize = 131072;
+
 fn main(rt: HostRuntime) -> io::Result<()> {
-    let mut text = text_buffer();
+    let mut text = [0u8; TEXT_SIZE];
     let read = streams::read_full(&rt, &mut text)?;
     let mut name = [0u8; 16];
     match rt.arg(1, &mut name) {
@@ -22,32 +32,24 @@ fn main(rt: HostRuntime) -> io::Result<()> {
 
 // Does what a command says; nothing where a word is no command.
 fn run(rt: &(impl Env + Print), command: &[u8], text: &[u8]) -> io::Result<()> {
-    if is_word(command, b"translate") {
-        translate(rt, text)
-    } else if is_word(command, b"replace") {
-        replace(rt, text)
-    } else if is_word(command, b"check") {
-        check(rt, text)
-    } else {
-        Ok(())
+    match command {
+        b"translate" => translate(rt, text),
+        b"replace" => replace(rt, text),
+        b"check" => check(rt, text),
+        _ => Ok(()),
     }
-}
-
-// Whether some bytes are a word.
-fn is_word(bytes: &[u8], word: &[u8]) -> bool {
-    bytes == word
 }
 
 // Prints the lines of a model's answer.
 fn check(rt: &impl Print, text: &[u8]) -> io::Result<()> {
-    let mut out = out_buffer();
+    let mut out = [0u8; ANSWER_SIZE];
     let written = checker::devashtor_check(text, &mut out);
     rt.write_all(&out[..written])
 }
 
 // Prints the text of the model of a process and a formula, or the refusal.
 fn translate(rt: &impl Print, text: &[u8]) -> io::Result<()> {
-    let mut out = model_buffer();
+    let mut out = [0u8; MODEL_SIZE];
     let written = translator::print_translation(text, &mut out);
     rt.write_all(&out[..written])
 }
@@ -58,15 +60,15 @@ fn replace(rt: &(impl Env + Print), text: &[u8]) -> io::Result<()> {
     if has_word(rt, 4) {
         return Ok(());
     }
-    let mut number = word_buffer();
+    let mut number = [0u8; WORD_SIZE];
     let Ok(digits) = rt.arg(2, &mut number) else {
         return Ok(());
     };
-    let mut side = word_buffer();
+    let mut side = [0u8; WORD_SIZE];
     let Ok(size) = rt.arg(3, &mut side) else {
         return Ok(());
     };
-    let mut out = text_buffer();
+    let mut out = [0u8; TEXT_SIZE];
     let written = replacer::print_replacement(text, &number[..digits], &side[..size], &mut out);
     rt.write_all(&out[..written])
 }
@@ -75,32 +77,4 @@ fn replace(rt: &(impl Env + Print), text: &[u8]) -> io::Result<()> {
 fn has_word(rt: &impl Env, number: usize) -> bool {
     let mut start = [0u8; 1];
     !matches!(rt.arg(number, &mut start), Err(FillError::NotPresent))
-}
-
-// As many bytes as a word of a command line may have on Linux.
-fn word_buffer() -> [u8; 131072]
-    ensures { 131072 ≡ length result }
-{
-    [0; 131072]
-}
-
-// One byte more than a text may have: a longer input is refused as this one is.
-fn text_buffer() -> [u8; 32769]
-    ensures { 32769 ≡ length result }
-{
-    [0; 32769]
-}
-
-// As many bytes as the longest answer takes.
-fn out_buffer() -> [u8; 7693]
-    ensures { 7693 ≡ length result }
-{
-    [0; 7693]
-}
-
-// As many bytes as the longest text of a model takes.
-fn model_buffer() -> [u8; 4117]
-    ensures { 4117 ≡ length result }
-{
-    [0; 4117]
 }

@@ -8,20 +8,17 @@ ghost use Rattle.digits.specs.Digits.{pair_of, bytes_of, padded, digit_of};
 
 pub use worths::worth;
 
-// The byte of a high and a low digit that are worth so much; 0 where one of them is none.
+// The byte of a high and a low digit that are worth so much; 0 where one of them is none: `pair_of` says so.
 fn pair(high: u8, low: u8) -> u8
     ensures { result ≡ pair_of high low }
 {
-    if 15 < high {
-        return 0;
-    }
-    if 15 < low {
+    if 15 < high || 15 < low {
         return 0;
     }
     high * 16 + low
 }
 
-// Byte i of the bytes that some characters make, two a byte; 0 past them.
+// Byte i of the bytes that some characters make, two a byte; 0 past them, as the promise `get_or` says.
 pub fn byte(characters: &[u8], i: usize) -> u8
     ensures { result ≡ get_or (bytes_of characters.now) i 0 }
 {
@@ -38,21 +35,20 @@ pub fn bytes(characters: &[u8]) -> [u8; 256]
     ensures { result ≡ padded (bytes_of characters.now) }
 {
     let mut list = [0u8; 256];
-    let count = basics::smaller(characters.len() / 2, 256);
-    let mut i: usize = 0;
-    while i < count {
+    let count = (characters.len() / 2).min(256);
+    for i in 0..count {
         list[i] = byte(characters, i);
-        i += 1;
     }
     list
 }
 
-// The small digit that is worth n; 0, which is no digit, where n is over 15.
+// The small digit that is worth n; 0, which is no digit, where n is over 15: `digit_of` says so.
 pub fn digit(n: u8) -> u8
     ensures { result ≡ digit_of n }
 {
-    if n <= 9 {
-        return n + 48;
+    match n {
+        0..=9 => n + 48,
+        10..=15 => n + 87,
+        _ => 0,
     }
-    if n <= 15 { n + 87 } else { 0 }
 }

@@ -39,10 +39,9 @@ const WORTHS: [u8; 256] = [
     255,
 ];
 
-// What a byte is worth as a digit; 255 where it is none.
+// What a byte is worth as a digit; 255 where it is none: the definition `worth_of` has the rule's table.
 pub fn worth(b: u8) -> u8
     ensures { result ≡ worth_of b }
 {
-    let i = b as usize;
-    WORTHS[i]
+    WORTHS[usize::from(b)]
 }

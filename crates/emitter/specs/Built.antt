@@ -1,7 +1,7 @@
 -- What `model_text` promises: the text of the model, where the model is within the limits.
 -- The sheet is one on which a process and a formula are laid out, which keep the rules.
 use Rattle.std.specs.Prelude.{ℕ, ◌+◌, ◌≤◌, ◌<◌, ◌≡◌, Bool, true, false, cond, List, [], ◌∷◌, map, length}
-use Rattle.std.specs.Prelude.{get_or, take, replicate}
+use Rattle.std.specs.Prelude.{get_or, take, replicate, Option, Some, None, IfSome, IsSomeAnd}
 use Rattle.std.proofs.lemmas.List.Edits.{sets}
 use Rattle.meaning.specs.Logic.{Is}
 use Rattle.meaning.specs.Models.{ModelEquation, Model}
@@ -24,18 +24,16 @@ use Rattle.emitter.specs.declared.Built.{Built}
 use Rattle.emitter.specs.declared.Head.{Head}
 use Rattle.emitter.specs.Limits.{equation_fits, each_fits, within_limits, text_for}
 
-abbrev pub no_text : Built
-no_text = record { ok = false; length = 0; text = replicate 4117 0 }
+-- a text, zeros after it, and how long it is
+abbrev pub text_built : List ℕ → Built
+text_built text = record { length = length text; text = sets (replicate 4117 0) 0 text }
 
-unfoldable pub built : Process → Modal → Built
+-- the text of the model, where the model is within the limits
+unfoldable pub built : Process → Modal → Option Built
 built process f =
     cond (within_limits (translated process f))
-    (record {
-      ok = true;
-      length = length (text_for process f);
-      text = sets (replicate 4117 0) 0 (text_for process f);
-    })
-    no_text
+    (Some (text_built (text_for process f)))
+    None
 
 -- ---- what is known of what is laid out on a sheet, each frame in a place of its own, and what `model_text`
 -- promises of it
@@ -43,7 +41,7 @@ pub record Given (process : Process) (f : Modal) (sheet : List ℕ) : Type 0 whe
   pub sheet_is : Sheet process f sheet
   pub formed : Is (well_formed_input process f)
 
-pub record ModelTold (sheet : List ℕ) (r : Built) : Type 0 where
+pub record ModelTold (sheet : List ℕ) (r : Option Built) : Type 0 where
   pub told : (process : Process) (f : Modal) → Given process f sheet → r ≡ built process f
 
 -- ---- what the functions inside promise
@@ -68,10 +66,10 @@ pub record Inner (inner : Modal) (number : ℕ) : Type 0 where
   pub few : number + fixed_points inner ≤ 8
 
 -- fixed point m of the formula
-pub record FixedTold (sheet : List ℕ) (m : ℕ) (r : Head) : Type 0 where
+pub record FixedTold (sheet : List ℕ) (m : ℕ) (r : Option Head) : Type 0 where
   pub told : (process : Process) (f : Modal) → Given process f sheet → m < fixed_points f
       → let fixed = get_or (fixed_in f) m no_fixed in
-      HeadOf sheet fixed.greatest fixed.inner (m + 1) r
+      IsSomeAnd r (HeadOf sheet fixed.greatest fixed.inner (m + 1))
 
 -- equation e of the model
 pub record Headed (process : Process) (f : Modal) (sheet : List ℕ) (e : ℕ) (r : Head) : Type 0 where
@@ -83,9 +81,9 @@ pub record Headed (process : Process) (f : Modal) (sheet : List ℕ) (e : ℕ) (
   pub head : HeadOf sheet greatest inner number r
   pub keeps : Inner inner number
 
-pub record HeadTold (sheet : List ℕ) (e : ℕ) (r : Head) : Type 0 where
+pub record HeadTold (sheet : List ℕ) (e : ℕ) (r : Option Head) : Type 0 where
   pub told : (process : Process) (f : Modal) → Given process f sheet → length (translated process f) ≤ 8
-      → e < length (translated process f) → Headed process f sheet e r
+      → e < length (translated process f) → IsSomeAnd r (Headed process f sheet e)
 
 -- what an equation's frame begins with
 abbrev pub head_bytes : List ℕ → ℕ → List ℕ
@@ -98,30 +96,30 @@ pub record HeadPut (sheet : List ℕ) (sign : ℕ) (frame left : List ℕ) (r : 
       → (r ≡ length (head_bytes process.ranges sign))
       × (left ≡ sets frame 0 (head_bytes process.ranges sign))
 
--- the frame of equation e; 257 where it does not fit
-pub record EquationPut (sheet places : List ℕ) (e : ℕ) (left : List ℕ) (r : ℕ) : Type 0 where
+-- the frame of equation e; none where it does not fit
+pub record EquationPut (sheet places : List ℕ) (e : ℕ) (left : List ℕ) (r : Option ℕ) : Type 0 where
   pub size : length left ≡ 256
-  pub few : r ≤ 257
+  pub few : IfSome r (λ n. n ≤ 256)
   pub told : (process : Process) (f : Modal) → Given process f sheet → Placed process places
       → length (translated process f) ≤ 8 → e < length (translated process f)
       → let equation = get_or (translated process f) e no_equation in
-      (equation_fits equation ≡ true → take r left ≡ equation_frame equation)
-      × ((equation_fits equation ≡ true → r ≡ length (equation_frame equation))
-      × (equation_fits equation ≡ false → r ≡ 257))
+      let n = length (equation_frame equation) in
+      (equation_fits equation ≡ true → (r ≡ Some n) × (take n left ≡ equation_frame equation))
+      × (equation_fits equation ≡ false → r ≡ None)
 
 -- the lines of some equations
 abbrev pub lines_for : Model → List ℕ
 lines_for model = text_of (map equation_frame model)
 
--- where they end; 5000 where one of them does not fit
-pub record EquationsPut (sheet places : List ℕ) (count : ℕ) (left : List ℕ) (r : ℕ) : Type 0 where
+-- where they end; none where one of them does not fit
+pub record EquationsPut (sheet places : List ℕ) (count : ℕ) (left : List ℕ) (r : Option ℕ) : Type 0 where
   pub size : length left ≡ 4117
   pub told : (process : Process) (f : Modal) → Given process f sheet → Placed process places
       → length (translated process f) ≡ count
-      → (each_fits (translated process f) ≡ true → r ≡ length (lines_for (translated process f)))
-      × ((each_fits (translated process f) ≡ true
-      → left ≡ sets (replicate 4117 0) 0 (lines_for (translated process f)))
-      × (each_fits (translated process f) ≡ false → r ≡ 5000))
+      → let lines = lines_for (translated process f) in
+      (each_fits (translated process f) ≡ true
+      → (r ≡ Some (length lines)) × (left ≡ sets (replicate 4117 0) 0 lines))
+      × (each_fits (translated process f) ≡ false → r ≡ None)
 
 -- the line of the start, behind them
 pub record StartPut (sheet text : List ℕ) (at : ℕ) (left : List ℕ) (r : ℕ) : Type 0 where

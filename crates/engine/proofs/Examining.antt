@@ -2,23 +2,29 @@
 -- The model of the decoded bodies is the text's, so the promises of finding and solving speak of the text.
 use Prim.Native.Nat.{ℕ, ◌≤◌}
 use native.Mathlib.Omega.{arith}
-use mathlib.Core.Path.{◌≡◌, refl, sym, ap, ap₂, ◌∙◌}
+use mathlib.Core.Path.{◌≡◌, refl, sym, ap, ap₂, subst, ◌∙◌}
 use mathlib.Core.Bool.{Bool, true, false, cond, not, ◌&&◌}
-use mathlib.Core.List.{List, ◌++◌, map}
+use mathlib.Core.List.{List, [], ◌++◌, map}
 use lib.Dec.{ltb, leb}
 use lib.ListN.{length, take, drop, get_or, length-map, length-append}
 use lib.Seq.{take_at}
+use Rattle.std.specs.Prelude.{Option, Some, None, Result, Ok, Err, IfSome, IsErrAnd, is_some, unwrap_or}
+use Rattle.refusals.specs.declared.Reason.{Reason}
+use Rattle.refusals.specs.declared.Reason.TheVariants.{NoRoom, AnotherList}
+use Rattle.refusals.specs.declared.Refusal.{Refusal}
+use Rattle.refusals.specs.Numbers.{number_of}
+use Rattle.refusals.specs.OneReply.{some_number}
 use borrow.Author.Tests.{ltb-true, ltb-false, le-leb, lt-leb, eq-eqb, ne_eqb}
 use Rattle.meaning.specs.Logic.{◌and◌, never, eq→Is}
 use Rattle.meaning.specs.Solution.{same}
 use Rattle.meaning.proofs.Members.{same_eq}
 use Rattle.meaning.specs.Reach.{Instance}
 use Rattle.meaning.specs.Words.{word}
-use Rattle.reading.specs.declared.Model.{Model}
 use Rattle.reading.specs.declared.Reading.{Reading}
 use Rattle.reading.specs.Contract.{start_from}
 use Rattle.reading.specs.Reading.{text_refusal}
-use Rattle.reading.specs.Records.{reading}
+use Rattle.reading.specs.Records.{ModelRecord, ReadingRecord, model_told, reading}
+use Rattle.reading.specs.Records as records
 use Rattle.truth.specs.Bits.{bit_of, nowhere}
 use Rattle.truth.specs.Words.{truth_words}
 use Rattle.truth.proofs.Words.{truth_words_bits, truth_words_count}
@@ -28,16 +34,19 @@ use Rattle.answers.specs.Answers.{refusal, verdict, judged, answer, is_found, li
 use Rattle.answers.proofs.Demand1.{kept_all}
 use Rattle.answers.proofs.Demand2.{start_first}
 use Rattle.preparing.specs.Promise.{Prepares}
-use Rattle.finding.specs.declared.Found.{Found}
-use Rattle.finding.specs.Found.{Searchable, FoundIn, Finds}
+use Rattle.finding.specs.Found.{Found, Searchable, FoundIn, Finds}
+use Rattle.finding.specs.Found as finding
 use Rattle.instances.specs.Graph.{graph_words}
 use Rattle.solving.specs.Promise.{Solvable, Solves}
+use Rattle.engine.specs.Examined.{judgement, number_found, whole, counted, Judged, Answered, ReadFrom}
+use Rattle.engine.specs.Examined.{ExaminedRecord, Examines}
 use Rattle.engine.specs.declared.Examined.{Examined}
-use Rattle.engine.specs.Examined.{judgement, number_found, whole, counted, Judged, Answered, ReadFrom, Examines}
+use Rattle.engine.specs.declared.Refused.{Refused}
+use Rattle.engine.specs.Told.{due, answer_told, told}
 use Rattle.engine.specs.Examined as examined
 use Rattle.engine.proofs.ReadModel.{model_is, well_formed_model, start_is}
 
--- ---- truth values: joined with a constant; and what both holding, or not, says of the first
+-- ---- truth values: joined with a constant
 with_true : (b : Bool) → b ≡ (b && true)
 with_true true = refl
 with_true false = refl
@@ -50,20 +59,16 @@ all_there : (over like : Bool) → (not over && like) ≡ true → over ≡ fals
 all_there true like e = never (eq→Is e)
 all_there false like e = refl
 
-over_so : (over : Bool) → (not over && true) ≡ false → over ≡ true
-over_so true e = refl
-over_so false e = never (eq→Is (sym e))
-
 -- ---- what was found in an accepted text: m is the model that was read, `prepared` are its bodies, prepared, `entry` and `exit`
 -- are the table before and after, and `graph` is what was drawn on empty rows
-pub record Searched (t : List ℕ) (m : Model) (bodies prepared entry exit rows graph : List ℕ) (w : ℕ) (r : Found) : Type 0
+pub record Searched (t : List ℕ) (m : ModelRecord) (bodies prepared entry exit rows graph : List ℕ) (w : ℕ) (r : Found) : Type 0
   where
     pub read : ReadFrom t m bodies
     pub prepares : Prepares bodies m.equations prepared
     pub named : w ≡ word (start_from m)
     pub finds : Finds prepared m.equations w (room_of (length entry)) entry exit rows graph r
 
-module _ {t : List ℕ} {m : Model} {bodies prepared entry exit rows graph : List ℕ} {w : ℕ} {r : Found}
+module _ {t : List ℕ} {m : ModelRecord} {bodies prepared entry exit rows graph : List ℕ} {w : ℕ} {r : Found}
     (s : Searched t m bodies prepared entry exit rows graph w r) where
   abbrev room : ℕ
   room = room_of (length entry)
@@ -211,70 +216,178 @@ module _ {t : List ℕ} {m : Model} {bodies prepared entry exit rows graph : Lis
           solves = λ given long. rw (found_is given long, right) (verdict_so found sized empty solves g);
         }
 
-    -- another list
-    pub refused_so : all ≡ false → lent ≡ true → {a : Answer} → a ≡ refusal 11 0 → Answered t entry exit list lent a
-    refused_so other given g = record {
-      checks = λ none. never (eq→Is (sym none ∙ given));
-      solves = λ _ long. rw (found_is given long, other) g;
-    }
+-- ---- how many words are to be solved, or why none are
+module _ (exit : List ℕ) where
+  -- those that were found, which a lent list has
+  due_ok : (found : Option ℕ) (list : Option (List ℕ)) {n : ℕ} → due found exit list ≡ Ok n
+      → (found ≡ Some n) × ((l : List ℕ) → list ≡ Some l → same l (take n exit) ≡ true)
+  due_ok None None e = absurd cc
+  due_ok None (Some l) e = absurd cc
+  due_ok (Some k) None e = (cc, λ l f. absurd cc)
+  due_ok (Some k) (Some l) {n} e = of (same l (take k exit)) refl e
+    where
+      of : (b : Bool) → same l (take k exit) ≡ b → cond {A = Result ℕ Reason} b (Ok k) (Err AnotherList) ≡ Ok n
+          → (Some k ≡ Some n) × ((j : List ℕ) → Some l ≡ Some j → same j (take n exit) ≡ true)
+      of true is e = (cc, λ j f. cc)
+      of false is e = absurd cc
 
-    -- no list, and more were reached than there is room
-    pub no_room : all ≡ false → lent ≡ false → {a : Answer} → a ≡ refusal 9 0 → Answered t entry exit list lent a
-    no_room other none g = record {
-      checks = λ _. too_many whole (over_so r.over (sym (rw (i, none) at e) ∙ other)) g;
-      solves = λ given. never (eq→Is (sym none ∙ given));
-    }
+  -- a lent list is another
+  other_list : (found : Option ℕ) (l : List ℕ) {reason : Reason} → due found exit (Some l) ≡ Err reason
+      → (reason ≡ AnotherList) × ((n : ℕ) → found ≡ Some n → same l (take n exit) ≡ false)
+  other_list None l e = (cc, λ n f. absurd cc)
+  other_list (Some k) l {reason} e = of (same l (take k exit)) refl e
+    where
+      of : (b : Bool) → same l (take k exit) ≡ b → cond {A = Result ℕ Reason} b (Ok k) (Err AnotherList) ≡ Err reason
+          → (reason ≡ AnotherList) × ((n : ℕ) → Some k ≡ Some n → same l (take n exit) ≡ false)
+      of true is e = absurd cc
+      of false is e = (cc, λ n f. cc)
 
--- ---- the whole text: rd is what was read of it
-module _ (t : List ℕ) {rd : Reading} (e : rd ≡ reading t) where
-  -- it is not refused
-  pub from_text : rd.number ≡ 0 → ReadFrom t rd.model rd.bodies
+pub searched : {t : List ℕ} {m : ModelRecord} {bodies prepared entry exit rows graph : List ℕ} {w : ℕ} {r : Found}
+    → ReadFrom t m bodies → Prepares bodies m.equations prepared → w ≡ word (start_from m)
+    → Finds prepared m.equations w (room_of (length entry)) entry exit rows graph r
+    → Searched t m bodies prepared entry exit rows graph w r
+searched read prepares named finds = record { read = read; prepares = prepares; named = named; finds = finds }
+
+abbrev pub SearchedSo : List ℕ → ModelRecord → (bodies prepared entry exit rows graph : List ℕ) → ℕ → Option ℕ → Type 0
+SearchedSo t m bodies prepared entry exit rows graph w f =
+    Searched t m bodies prepared entry exit rows graph w (finding.told (room_of (length entry)) f)
+
+module _ {t : List ℕ} {m : ModelRecord} {bodies prepared entry exit rows graph : List ℕ} {w : ℕ} where
+  -- the table has as many words
+  pub found_inside : (found : Option ℕ) → SearchedSo t m bodies prepared entry exit rows graph w found
+      → IfSome found (λ n. n ≤ length exit)
+  found_inside None s = tt
+  found_inside (Some n) s = inside s
+
+  pub due_inside : (found : Option ℕ) (list : Option (List ℕ)) {n : ℕ}
+      → SearchedSo t m bodies prepared entry exit rows graph w found → due found exit list ≡ Ok n
+      → n ≤ length exit
+  due_inside found list s e =
+      inside (subst (SearchedSo t m bodies prepared entry exit rows graph w) (due_ok exit found list e).0 s)
+
+  -- what is solved is answered
+  pub due_solved : (found : Option ℕ) (list : Option (List ℕ)) {n : ℕ}
+      → SearchedSo t m bodies prepared entry exit rows graph w found → due found exit list ≡ Ok n
+      → length rows ≡ graph_words → bit_of rows ≡ nowhere → {truth : List ℕ}
+      → Solves prepared m.equations m.count (take n exit) graph truth
+      → {a : Answer} → a ≡ judgement n truth → Answered t entry exit (unwrap_or list []) (is_some list) a
+  due_solved found list {n} s e sized empty {truth} solves {a} g = record {
+    checks = λ _. judged_so all refl sized empty solves g;
+    solves = right list (due_ok exit found list e).1;
+  }
+    where
+      all : SearchedSo t m bodies prepared entry exit rows graph w (Some n)
+      all = subst (SearchedSo t m bodies prepared entry exit rows graph w) (due_ok exit found list e).0 s
+
+      right : (l : Option (List ℕ)) → ((j : List ℕ) → l ≡ Some j → same j (take n exit) ≡ true) → is_some l ≡ true
+          → length entry ≡ 512 → a ≡ cond (is_found t (unwrap_or l [])) (verdict t) (refusal 11 0)
+      right None like given long = never (eq→Is given)
+      right (Some j) like given long =
+          rw (compared all long j, like j refl) (verdict_so all refl sized empty solves g)
+
+  -- and what is not is refused: no list is lent, and more were reached than there is room
+  none_due : (found : Option ℕ) {reason : Reason}
+      → SearchedSo t m bodies prepared entry exit rows graph w found → due found exit None ≡ Err reason
+      → Answered t entry exit [] false (refusal (number_of reason) 0)
+  none_due None s e = record {
+    checks = λ _. too_many s whole refl (no_room cc);
+    solves = λ given. never (eq→Is given);
+  }
+    where
+      no_room : {reason : Reason} → reason ≡ NoRoom → refusal (number_of reason) 0 ≡ refusal 9 0
+      no_room same = ap (λ (r : Reason). refusal (number_of r) 0) same
+  none_due (Some n) s e = absurd cc
+
+  -- or a list that is another
+  other_due : (found : Option ℕ) (l : List ℕ) {reason : Reason}
+      → SearchedSo t m bodies prepared entry exit rows graph w found → due found exit (Some l) ≡ Err reason
+      → Answered t entry exit l true (refusal (number_of reason) 0)
+  other_due found l {reason} s e = record {
+    checks = λ given. never (eq→Is (sym given));
+    solves = λ _ long. wrong found s (other_list exit found l e).1 long;
+  }
+    where
+      eleven : refusal (number_of reason) 0 ≡ refusal 11 0
+      eleven = ap (λ (r : Reason). refusal (number_of r) 0) (other_list exit found l e).0
+
+      wrong : (found : Option ℕ) → SearchedSo t m bodies prepared entry exit rows graph w found
+          → ((n : ℕ) → found ≡ Some n → same l (take n exit) ≡ false)
+          → length entry ≡ 512 → refusal (number_of reason) 0 ≡ cond (is_found t l) (verdict t) (refusal 11 0)
+      wrong None s other long = rw (compared s long l) eleven
+      wrong (Some n) s other long = rw (compared s long l, other n refl) eleven
+
+  pub due_refused : (found : Option ℕ) (list : Option (List ℕ)) {reason : Reason}
+      → SearchedSo t m bodies prepared entry exit rows graph w found → due found exit list ≡ Err reason
+      → Answered t entry exit (unwrap_or list []) (is_some list) (refusal (number_of reason) 0)
+  due_refused found None s e = none_due found s e
+  due_refused found (Some l) s e = other_due found l s e
+
+-- ---- a refusal that is handed on
+pub answer_handed_on : (r : Result Answer Reason) (reason : Reason) → IsErrAnd r (λ e. e ≡ reason)
+    → answer_told r ≡ refusal (number_of reason) 0
+answer_handed_on (Ok a) reason h = absurd h
+answer_handed_on (Err e) reason h = rw h refl
+
+-- no model was read
+abbrev pub text_refused : Refusal → Result Examined Refused
+text_refused refused = Err (record { refusal = refused; model = None })
+
+pub handed_on : (r : Result Examined Refused) (refused : Refusal)
+    → IsErrAnd r (λ e. e ≡ record { refusal = refused; model = None }) → told r ≡ told (text_refused refused)
+handed_on (Ok a) refused h = absurd h
+handed_on (Err e) refused h = rw h refl
+
+-- ---- the whole text: what was read of it
+-- it is not refused
+pub from_text : (t : List ℕ) {r : Reading} → records.told (Ok r) ≡ reading t → ReadFrom t (model_told r.model) r.bodies
+unfolding reading
+from_text t e = record {
+  accepted = sym (ap (λ (r : ReadingRecord). r.number) e);
+  records_same = ap (λ (r : ReadingRecord). r.model) e;
+  bodies_same = ap (λ (r : ReadingRecord). r.bodies) e;
+}
+
+-- it is
+module _ (t : List ℕ) (r : Refusal) (e : records.told (Err r) ≡ reading t) where
+  not_zero : (text_refusal t).number ≡ 0 → ⊥
   unfolding reading
-  from_text zero = record {
-    accepted = sym (ap (λ (r : Reading). r.number) e) ∙ zero;
-    records_same = ap (λ (r : Reading). r.model) e;
-    bodies_same = ap (λ (r : Reading). r.bodies) e;
+  not_zero z = some_number r.reason (ap (λ (r : ReadingRecord). r.number) e ∙ z)
+
+  as_text : refusal (number_of r.reason) r.line ≡ refusal (text_refusal t).number (text_refusal t).line
+  unfolding reading
+  as_text = ap (λ (r : ReadingRecord). refusal r.number r.line) e
+
+  pub examined_refused : {entry : List ℕ} → Examines whole t entry (told (text_refused r)) entry
+  unfolding answer table_after
+  examined_refused = record {
+    answered = as_text ∙ rw (ne_eqb _ _ not_zero) refl;
+    read = ap (λ (r : ReadingRecord). r.model) e;
+    listed = rw (ne_eqb _ _ not_zero) refl;
   }
 
-  -- it is
-  module _ (n : rd.number ≡ 0 → ⊥) {a : Answer} (refused : a ≡ refusal rd.number rd.line) where
-    not_zero : (text_refusal t).number ≡ 0 → ⊥
-    unfolding reading
-    not_zero z = n (ap (λ (r : Reading). r.number) e ∙ z)
+  -- a refusal is told by number and line alone
+  pub counted_refused : {entry : List ℕ} → Examines counted t entry (told (text_refused r)) entry
+  counted_refused {entry} =
+      let x = examined_refused {entry = entry} in
+      record { answered = as_text ∙ sym (ap counted as_text) ∙ ap counted x.answered; read = x.read; listed = x.listed }
 
-    as_text : a ≡ refusal (text_refusal t).number (text_refusal t).line
-    unfolding reading
-    as_text = refused ∙ ap (λ (r : Reading). refusal r.number r.line) e
+  pub solved_refused : {lent : List ℕ} → examined.Solves t lent (told (text_refused r))
+  unfolding list_answer
+  solved_refused =
+      record { answered = as_text ∙ rw (ne_eqb _ _ not_zero) refl; read = ap (λ (r : ReadingRecord). r.model) e }
 
-    pub examined_refused : {entry : List ℕ} → Examines whole t entry (record { answer = a; model = rd.model }) entry
+module _ {t bodies : List ℕ} {m : ModelRecord} (f : ReadFrom t m bodies) {e : ExaminedRecord} (is : e.model ≡ (reading t).model)
+  where
+    pub examined_judged : {shown : Answer → Answer} {entry exit : List ℕ} → Judged shown t entry exit e.answer
+        → Examines shown t entry e exit
     unfolding answer table_after
-    examined_refused = record {
-      answered = as_text ∙ rw (ne_eqb _ _ not_zero) refl;
-      read = ap (λ (r : Reading). r.model) e;
-      listed = rw (ne_eqb _ _ not_zero) refl;
+    examined_judged j = record {
+      answered = j.result ∙ rw (eq-eqb _ _ f.accepted) refl;
+      read = is;
+      listed = j.table ∙ rw (eq-eqb _ _ f.accepted) refl;
     }
 
-    -- a refusal is told by number and line alone
-    pub counted_refused : {entry : List ℕ} → Examines counted t entry (record { answer = a; model = rd.model }) entry
-    counted_refused {entry} =
-        let x = examined_refused {entry = entry} in
-        record { answered = as_text ∙ sym (ap counted as_text) ∙ ap counted x.answered; read = x.read; listed = x.listed }
-
-    pub solved_refused : {lent : List ℕ} → examined.Solves t lent (record { answer = a; model = rd.model })
+    pub examined_solved : {lent : List ℕ} → e.answer ≡ cond (is_found t lent) (verdict t) (refusal 11 0)
+        → examined.Solves t lent e
     unfolding list_answer
-    solved_refused =
-        record { answered = as_text ∙ rw (ne_eqb _ _ not_zero) refl; read = ap (λ (r : Reading). r.model) e }
-
-module _ {t bodies : List ℕ} {e : Examined} (f : ReadFrom t e.model bodies) where
-  pub examined_judged : {told : Answer → Answer} {entry exit : List ℕ} → Judged told t entry exit e.answer
-      → Examines told t entry e exit
-  unfolding answer table_after
-  examined_judged j = record {
-    answered = j.result ∙ rw (eq-eqb _ _ f.accepted) refl;
-    read = f.records_same;
-    listed = j.table ∙ rw (eq-eqb _ _ f.accepted) refl;
-  }
-
-  pub examined_solved : {lent : List ℕ} → e.answer ≡ cond (is_found t lent) (verdict t) (refusal 11 0) → examined.Solves t lent e
-  unfolding list_answer
-  examined_solved j = record { answered = j ∙ rw (eq-eqb _ _ f.accepted) refl; read = f.records_same }
+    examined_solved j = record { answered = j ∙ rw (eq-eqb _ _ f.accepted) refl; read = is }

@@ -18,13 +18,12 @@ use Rattle.formulas.specs.declared.Equation.{Equation}
 use Rattle.formulas.specs.Bodies.{formula_of, ranges_of}
 use Rattle.formulas.proofs.Bodies.{signature_at}
 use Rattle.formulas.proofs.Decoded.{body_short, body_whole}
-use Rattle.reading.specs.declared.Model as records
 use Rattle.reading.specs.Contract.{start_from}
 use Rattle.reading.specs.Equations.{ranges_in, equation_of, start_of}
 use Rattle.reading.specs.Equations as frame
 use Rattle.reading.specs.Models.{equations_in, starts_in, first_of, model_of, start_in}
 use Rattle.reading.specs.Reading.{text_refusal}
-use Rattle.reading.specs.Records.{equation_record, start_record, model_record, kept, reading}
+use Rattle.reading.specs.Records.{ModelRecord, equation_record, start_record, model_record, kept, reading}
 use Rattle.reading.proofs.Drafts.{EquationSound, Drafted, no_frame, count_is}
 use Rattle.reading.proofs.Finishing as held
 use Rattle.reading.proofs.WellFormed.{text_passed, parameters, reading_well_formed, reading_drafted}
@@ -35,7 +34,7 @@ use Rattle.instances.proofs.Models.{Named}
 use Rattle.instances.specs.Models.{equation_in, model_from, model_in, WellFormedModel}
 
 module _ (t : List ℕ) (accepted : (text_refusal t).number ≡ 0) where
-  abbrev m : records.Model
+  abbrev m : ModelRecord
   m = (reading t).model
 
   abbrev bodies : List ℕ

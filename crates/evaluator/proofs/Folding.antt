@@ -9,106 +9,105 @@ use mathlib.Core.Logic.{◌⊎◌, inl, inr}
 use Rattle.meaning.specs.Logic.{over}
 use Rattle.meaning.specs.Over.{between, between_one, between_parts}
 use Rattle.looked.proofs.OverLaws.{Decider}
-use Rattle.evaluator.specs.declared.Value.{Value}
-use Rattle.evaluator.specs.declared.Value.TheVariants.{False, True, Open}
+use Rattle.std.proofs.Common.{Option, Some, None}
 use Rattle.evaluator.specs.Values.{known, join_value, decides}
 
-unit_last : (all : Bool) (x : Value) → join_value all x (known all) ≡ x
-unit_last true False = refl
-unit_last true True = refl
-unit_last true Open = refl
-unit_last false False = refl
-unit_last false True = refl
-unit_last false Open = refl
+unit_last : (all : Bool) (x : Option Bool) → join_value all x (known all) ≡ x
+unit_last true (Some false) = refl
+unit_last true (Some true) = refl
+unit_last true None = refl
+unit_last false (Some false) = refl
+unit_last false (Some true) = refl
+unit_last false None = refl
 
-unit_first : (all : Bool) (x : Value) → join_value all (known all) x ≡ x
+unit_first : (all : Bool) (x : Option Bool) → join_value all (known all) x ≡ x
 unit_first true x = refl
 unit_first false x = refl
 
-associative : (all : Bool) (x y z : Value) → join_value all x (join_value all y z) ≡ join_value all (join_value all x y) z
-associative true False y z = refl
-associative true True y z = refl
-associative true Open False z = refl
-associative true Open True z = refl
-associative true Open Open False = refl
-associative true Open Open True = refl
-associative true Open Open Open = refl
-associative false True y z = refl
-associative false False y z = refl
-associative false Open True z = refl
-associative false Open False z = refl
-associative false Open Open False = refl
-associative false Open Open True = refl
-associative false Open Open Open = refl
+associative : (all : Bool) (x y z : Option Bool) → join_value all x (join_value all y z) ≡ join_value all (join_value all x y) z
+associative true (Some false) y z = refl
+associative true (Some true) y z = refl
+associative true None (Some false) z = refl
+associative true None (Some true) z = refl
+associative true None None (Some false) = refl
+associative true None None (Some true) = refl
+associative true None None None = refl
+associative false (Some true) y z = refl
+associative false (Some false) y z = refl
+associative false None (Some true) z = refl
+associative false None (Some false) z = refl
+associative false None None (Some false) = refl
+associative false None None (Some true) = refl
+associative false None None None = refl
 
-joined_itself : (all : Bool) (x : Value) → join_value all x x ≡ x
-joined_itself true False = refl
-joined_itself true True = refl
-joined_itself true Open = refl
-joined_itself false False = refl
-joined_itself false True = refl
-joined_itself false Open = refl
+joined_itself : (all : Bool) (x : Option Bool) → join_value all x x ≡ x
+joined_itself true (Some false) = refl
+joined_itself true (Some true) = refl
+joined_itself true None = refl
+joined_itself false (Some false) = refl
+joined_itself false (Some true) = refl
+joined_itself false None = refl
 
 -- what decides is the constant that a connective does not drop
-pub deciding : (all : Bool) (x : Value) → decides all x ≡ true → x ≡ known (not all)
-deciding true False h = refl
-deciding true True h = absurd (true≢false (sym h))
-deciding true Open h = absurd (true≢false (sym h))
-deciding false False h = absurd (true≢false (sym h))
-deciding false True h = refl
-deciding false Open h = absurd (true≢false (sym h))
+pub deciding : (all : Bool) (x : Option Bool) → decides all x ≡ true → x ≡ known (not all)
+deciding true (Some false) h = refl
+deciding true (Some true) h = absurd (true≢false (sym h))
+deciding true None h = absurd (true≢false (sym h))
+deciding false (Some false) h = absurd (true≢false (sym h))
+deciding false (Some true) h = refl
+deciding false None h = absurd (true≢false (sym h))
 
 -- no two values are one
-abbrev is_false : Value → Bool
-is_false False = true
-is_false True = false
-is_false Open = false
+abbrev is_false : Option Bool → Bool
+is_false (Some false) = true
+is_false (Some true) = false
+is_false None = false
 
-abbrev is_true : Value → Bool
-is_true False = false
-is_true True = true
-is_true Open = false
+abbrev is_true : Option Bool → Bool
+is_true (Some false) = false
+is_true (Some true) = true
+is_true None = false
 
 pub joins_decided : (all : Bool) → Decider (join_value all) (known all) (known (not all))
 joins_decided true = record { first = λ x. refl; second = second; either = either; other = λ e. true≢false (ap is_false (sym e)) }
   where
-    second : (x : Value) → join_value true x False ≡ False
-    second False = refl
-    second True = refl
-    second Open = refl
+    second : (x : Option Bool) → join_value true x (Some false) ≡ Some false
+    second (Some false) = refl
+    second (Some true) = refl
+    second None = refl
 
-    either : (x y : Value) → join_value true x y ≡ False → (x ≡ False) ⊎ (y ≡ False)
-    either False y e = inl refl
-    either True y e = inr e
-    either Open False e = inr refl
-    either Open True e = absurd (true≢false (ap is_false (sym e)))
-    either Open Open e = absurd (true≢false (ap is_false (sym e)))
+    either : (x y : Option Bool) → join_value true x y ≡ Some false → (x ≡ (Some false)) ⊎ (y ≡ (Some false))
+    either (Some false) y e = inl refl
+    either (Some true) y e = inr e
+    either None (Some false) e = inr refl
+    either None (Some true) e = absurd (true≢false (ap is_false (sym e)))
+    either None None e = absurd (true≢false (ap is_false (sym e)))
 joins_decided false = record { first = λ x. refl; second = second; either = either; other = λ e. true≢false (ap is_true (sym e)) }
   where
-    second : (x : Value) → join_value false x True ≡ True
-    second False = refl
-    second True = refl
-    second Open = refl
+    second : (x : Option Bool) → join_value false x (Some true) ≡ Some true
+    second (Some false) = refl
+    second (Some true) = refl
+    second None = refl
 
-    either : (x y : Value) → join_value false x y ≡ True → (x ≡ True) ⊎ (y ≡ True)
-    either True y e = inl refl
-    either False y e = inr e
-    either Open True e = inr refl
-    either Open False e = absurd (true≢false (ap is_true (sym e)))
-    either Open Open e = absurd (true≢false (ap is_true (sym e)))
+    either : (x y : Option Bool) → join_value false x y ≡ Some true → (x ≡ (Some true)) ⊎ (y ≡ (Some true))
+    either (Some true) y e = inl refl
+    either (Some false) y e = inr e
+    either None (Some true) e = inr refl
+    either None (Some false) e = absurd (true≢false (ap is_true (sym e)))
+    either None None e = absurd (true≢false (ap is_true (sym e)))
 
 -- what decides the whole is the whole, whatever the rest is
-stops : (all : Bool) (x y : Value) → decides all x ≡ true → x ≡ join_value all x y
-stops true False y h = refl
-stops true True y h = absurd (true≢false (sym h))
-stops true Open y h = absurd (true≢false (sym h))
-stops false False y h = absurd (true≢false (sym h))
-stops false True y h = refl
-stops false Open y h = absurd (true≢false (sym h))
+stops : (all : Bool) (x y : Option Bool) → decides all x ≡ true → x ≡ join_value all x y
+stops true (Some false) y h = refl
+stops true (Some true) y h = absurd (true≢false (sym h))
+stops true None y h = absurd (true≢false (sym h))
+stops false (Some false) y h = absurd (true≢false (sym h))
+stops false (Some true) y h = refl
+stops false None y h = absurd (true≢false (sym h))
 
-module _ (all : Bool) (p : ℕ → Value) where
+module _ (all : Bool) (p : ℕ → Option Bool) where
   -- of the first n values
-  abbrev all_of : ℕ → Value
+  abbrev all_of : ℕ → Option Bool
   all_of n = over (join_value all) (known all) 0 n p
 
   pub first_value : p 0 ≡ all_of 1
@@ -131,7 +130,7 @@ module _ (all : Bool) (p : ℕ → Value) where
   decided_early {n} {m} l d = stops all (all_of n) (between (join_value all) (known all) n m p) d ∙ parts l
 
   -- all values are the same
-  same_over : (x : Value) → ((i : ℕ) → p i ≡ x) → (v n : ℕ) → over (join_value all) (known all) v (suc n) p ≡ x
+  same_over : (x : Option Bool) → ((i : ℕ) → p i ≡ x) → (v n : ℕ) → over (join_value all) (known all) v (suc n) p ≡ x
   unfolding over
   same_over x h v zero = unit_last all (p v) ∙ h v
   same_over x h v (suc n) = ap₂ (join_value all) (h v) (same_over x h (v + 1) n) ∙ joined_itself all x

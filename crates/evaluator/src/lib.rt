@@ -17,82 +17,63 @@ ghost use Rattle.evaluator.specs.Values.{valued, value_in};
 ghost use Rattle.evaluator.specs.Folds.{FormulaValued, FoldValued};
 
 use formulas::{Kind, Tuple, is_range, kind_of, push};
-use leaves::result;
 pub use leaves::{test_at, word_at};
+use looked::Looked;
 use prepared::{byte_at, end_at};
 pub use tables::lookup;
 use tables::value_of;
-use values::{decides, joined, known};
-
-// The value of a formula or of an instance; Open where it is not known.
-#[derive(Clone, Copy)]
-pub enum Value {
-    False,
-    True,
-    Open,
-}
-
-// The value of a formula, and the variables that were looked at for it.
-#[derive(Clone, Copy)]
-pub struct Valued {
-    pub value: Value,
-    pub looked: u8,
-}
-
-// Whether a test holds, and the variables that were looked at for it.
-#[derive(Clone, Copy)]
-pub struct TestAt {
-    pub holds: bool,
-    pub looked: u8,
-}
-
-// The word of an instance, and the variables that were looked at for it.
-#[derive(Clone, Copy)]
-pub struct WordAt {
-    pub word: u32,
-    pub looked: u8,
-}
+use values::{decides, joined};
 
 // The value of the formula at a place. The second part of a join is passed over where the first decides.
+// Body, table and set are kept as parameters: with a struct of them a frame took 160 bytes more, and bodies
+// nest 126 deep in the stack that is stated.
 #[cycle(fold_value_there)]
-fn value_there(body: &[u8], at: usize, scope: Tuple, table: &[u32], truth: &[u64; 8]) -> Valued
+fn value_there(
+    body: &[u8],
+    at: usize,
+    scope: Tuple,
+    table: &[u32],
+    truth: &[u64; 8],
+) -> Looked<Option<bool>>
     ensures { FormulaValued (formula_there body.now scope.count at)
         (value_in table.now (bit_of truth.now)) (items scope) result }
 {
     if 256 <= at {
-        return result(Value::False, 0);
+        return Looked::alone(Some(false));
     }
-    let kind = kind_of(byte_at(body, at));
+    let Some(kind) = kind_of(byte_at(body, at)) else {
+        return Looked::alone(Some(false));
+    };
     match kind {
-        Kind::NoFormula => result(Value::False, 0),
-        Kind::Constant(b) => result(known(b), 0),
+        Kind::Constant(b) => Looked::alone(Some(b)),
         Kind::Join(all) => {
             let a = value_there(body, at + 1, scope, table, truth);
-            let x = a.value;
-            if decides(all, x) {
+            if decides(all, a.value) {
                 return a;
             }
             let b = value_there(body, end_at(body, at + 1), scope, table, truth);
-            let y = b.value;
-            result(joined(all, x, y), looked::both(a.looked, b.looked))
+            joined(all, a, b)
         }
         Kind::Quantifier(all) => {
             let r = byte_at(body, at + 1);
-            if 8 <= scope.count {
-                return result(Value::False, 0);
-            }
-            if !is_range(r) {
-                return result(Value::False, 0);
+            if 8 <= scope.count || !is_range(r) {
+                return Looked::alone(Some(false));
             }
             fold(body, at + 2, scope, all, r, table, truth)
         }
         Kind::Compare(t) => {
             let a = test_at(body, at, scope, t);
-            result(known(a.holds), a.looked)
+            Looked {
+                value: Some(a.value),
+                looked: a.looked,
+            }
         }
         Kind::Instance => {
             let a = word_at(body, at, scope);
-            result(value_of(table, truth, a.word), a.looked)
+            Looked {
+                value: value_of(table, truth, a.value),
+                looked: a.looked,
+            }
         }
     }
 }
@@ -109,34 +90,29 @@ fn fold(
     r: u8,
     table: &[u32],
     truth: &[u64; 8],
-) -> Valued
+) -> Looked<Option<bool>>
     requires { (0 < r) × (scope.count < 8) }
     ensures { FoldValued all r (formula_there body.now (scope.count + 1) at)
         (value_in table.now (bit_of truth.now)) (items scope) result }
 {
     let mut a = value_there(body, at, push(scope, 0), table, truth);
-    let mut i: u8 = 1;
-    while i < r {
-        let x = a.value;
-        if decides(all, x) {
+    for i in 1..r {
+        if decides(all, a.value) {
             return a;
         }
         if !looked::looks_at(a.looked, scope.count) {
             return a;
         }
         let b = value_there(body, at, push(scope, i), table, truth);
-        let y = b.value;
-        a = result(joined(all, x, y), looked::both(a.looked, b.looked));
-        i += 1;
+        a = joined(all, a, b);
     }
     a
 }
 
 // The value of the formula at the beginning of a prepared body.
-pub fn evaluate(body: &[u8], scope: Tuple, table: &[u32], truth: &[u64; 8]) -> Value
+pub fn evaluate(body: &[u8], scope: Tuple, table: &[u32], truth: &[u64; 8]) -> Option<bool>
     ensures { result ≡ valued (formula_there body.now scope.count 0)
         (value_in table.now (bit_of truth.now)) (items scope) }
 {
-    let a = value_there(body, 0, scope, table, truth);
-    a.value
+    value_there(body, 0, scope, table, truth).value
 }

@@ -3,10 +3,9 @@ ghost use Rattle.std.specs.Prelude.{◌≡◌};
 ghost use Rattle.truth.specs.Bits.{bit_of};
 ghost use Rattle.evaluator.specs.Values.{index_of, value_in};
 
-use crate::Value;
-use crate::values::known;
-
 // Where w first stands in the table; the table's length, where it does not.
+// Kept as a number, and as a loop that gives it by `break`: `index_of` names the length for "not there", and
+// the rules of the project name the loop.
 pub fn lookup(table: &[u32], w: u32) -> usize
     ensures { result ≡ index_of table.now w }
 {
@@ -24,13 +23,13 @@ pub fn lookup(table: &[u32], w: u32) -> usize
 }
 
 // The value of the instance with the word w.
-pub(crate) fn value_of(table: &[u32], truth: &[u64; 8], w: u32) -> Value
+pub(crate) fn value_of(table: &[u32], truth: &[u64; 8], w: u32) -> Option<bool>
     ensures { result ≡ value_in table.now (bit_of truth.now) w }
 {
     let j = lookup(table, w);
     if j < table.len() {
-        known(truth::has(*truth, j))
+        Some(truth::has(*truth, j))
     } else {
-        Value::Open
+        None
     }
 }

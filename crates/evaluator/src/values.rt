@@ -1,56 +1,37 @@
-// The three values of a formula, and how connectives join them.
-ghost use Rattle.std.specs.Prelude.{◌≡◌, true, false};
-ghost use Rattle.evaluator.specs.Values.{known, join_value, decides};
+// The values of a formula, and how connectives join them.
+ghost use Rattle.std.specs.Prelude.{◌≡◌};
+ghost use Rattle.evaluator.specs.Values.{join_value, decides};
+ghost use Rattle.evaluator.specs.Folds.{joined_values};
 
-use crate::Value;
+use looked::Looked;
 
-pub(crate) fn known(b: bool) -> Value
-    ensures { result ≡ known b }
-{
-    if b { Value::True } else { Value::False }
-}
-
-pub(crate) fn both(a: Value, b: Value) -> Value
-    ensures { result ≡ join_value true a b }
-{
-    match a {
-        Value::False => Value::False,
-        Value::True => b,
-        Value::Open => match b {
-            Value::False => Value::False,
-            Value::True => Value::Open,
-            Value::Open => Value::Open,
-        },
-    }
-}
-
-pub(crate) fn either(a: Value, b: Value) -> Value
-    ensures { result ≡ join_value false a b }
-{
-    match a {
-        Value::True => Value::True,
-        Value::False => b,
-        Value::Open => match b {
-            Value::True => Value::True,
-            Value::False => Value::Open,
-            Value::Open => Value::Open,
-        },
-    }
-}
-
-pub(crate) fn joined(all: bool, a: Value, b: Value) -> Value
+// The `and` (the `or`, where `all` is false) of two values: one that is known is dropped, or it decides.
+fn join(all: bool, a: Option<bool>, b: Option<bool>) -> Option<bool>
     ensures { result ≡ join_value all a b }
 {
-    if all { both(a, b) } else { either(a, b) }
+    match (a, b) {
+        (Some(x), other) | (other, Some(x)) => if x == all { other } else { Some(x) },
+        (None, None) => None,
+    }
+}
+
+// The value of two parts together, and the variables that were looked at for both.
+pub(crate) fn joined(
+    all: bool,
+    a: Looked<Option<bool>>,
+    b: Looked<Option<bool>>,
+) -> Looked<Option<bool>>
+    ensures { result ≡ joined_values all a b }
+{
+    Looked {
+        value: join(all, a.value, b.value),
+        looked: looked::both(a.looked, b.looked),
+    }
 }
 
 // Whether one part decides the whole: false in an `and`, true in an `or`.
-pub(crate) fn decides(all: bool, a: Value) -> bool
+pub(crate) fn decides(all: bool, a: Option<bool>) -> bool
     ensures { result ≡ decides all a }
 {
-    match a {
-        Value::False => all,
-        Value::True => !all,
-        Value::Open => false,
-    }
+    a == Some(!all)
 }

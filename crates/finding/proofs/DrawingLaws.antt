@@ -4,17 +4,16 @@ use Prim.Native.Nat.{ℕ, ◌+◌, ◌*◌, ◌≤◌, ◌<◌}
 use native.Mathlib.Omega.{arith}
 use native.Mathlib.Decide.{ℕ_discrete}
 use mathlib.Core.Path.{◌≡◌, refl, sym, ap, ap₂, ◌∙◌}
-use mathlib.Core.Bool.{Bool, true, false, true≢false, not, ◌&&◌, ◌||◌, beq, and-false, or-false, or-true}
-use mathlib.Core.Bool.{and-eq-true_iff}
+use mathlib.Core.Bool.{Bool, true, false, true≢false, ◌&&◌, ◌||◌, and-false, or-false, or-true}
 use mathlib.Core.List.{List}
 use lib.Dec.{eqb}
 use lib.ListN.{length}
 use borrow.Author.Tests.{eq-eqb, ne_eqb, eqb-true, lt-ltb}
 use Rattle.meaning.specs.Logic.{cases}
 use Rattle.truth.specs.Bits.{nowhere, updated, put_in}
-use Rattle.truth.specs.Rows.{row_of, unlike_in, last_below, with_bit, Becomes}
-use Rattle.truth.proofs.RowLaws.{RowIs, row_with_bit, rows_then, last_none, last_some, last_within}
-use Rattle.truth.proofs.RowLaws.{last_falls, rank}
+use Rattle.truth.specs.Rows.{row_of, unlike_in, LastOf, with_bit, Becomes}
+use Rattle.std.specs.Prelude.{Some, None}
+use Rattle.truth.proofs.RowLaws.{RowIs, row_with_bit, rows_then, last_member, last_falls, none_unlike, unlike_left}
 use Rattle.instances.specs.Graph.{readers_row, members_row, plain_row}
 use Rattle.finding.specs.Drawn.{Drawable, Notable, Notes, NotesReaders, SideDrawn}
 
@@ -41,30 +40,34 @@ not_noted {graph} {i} {j} = record {
   others = λ n o. refl;
 }
 
--- the same, said with the row, the instance and the truth that are meant
-pub notes_as : {g g' : List ℕ} {i j i' j' : ℕ} {b b' : Bool} → Notes g g' i j b → i ≡ i' → j ≡ j' → b ≡ b' → Notes g g' i' j' b'
-notes_as n p q e = rw (p, q, e) at n
+-- the same, said with the truth that is meant
+pub noted_as : {g g' : List ℕ} {i j : ℕ} {b : Bool} → Notes g g' i j true → true ≡ b → Notes g g' i j b
+noted_as n p = rw p at n
+
+pub not_noted_as : {g : List ℕ} {i j : ℕ} {b : Bool} → false ≡ b → Notes g g i j b
+not_noted_as {g} {i} {j} p = rw p at (not_noted {graph = g} {i = i} {j = j})
 
 -- ---- the readers' rows
--- j was noted for those that are done; k is the last of its row that is not
-pub record Noting (g₀ g : List ℕ) (j : ℕ) (done : ℕ → Bool) (k : ℕ) : Type 0 where
+-- j was noted for those that are done
+pub record Noting (g₀ g : List ℕ) (j : ℕ) (done : ℕ → Bool) : Type 0 where
   pub size : length g ≡ length g₀
   pub within : (m : ℕ) → done m ≡ true → row_of g₀ j m ≡ true
   pub readers : (m i : ℕ) → m < 512
       → row_of g (readers_row m) i ≡ (row_of g₀ (readers_row m) i || (eqb i j && done m))
   pub others : (n : ℕ) → ((m : ℕ) → m < 512 → n ≡ readers_row m → ⊥) → row_of g n ≡ row_of g₀ n
-  pub last : k ≡ last_below 512 (unlike_in (row_of g₀ j) done true)
 
-pub noting_starts : {g : List ℕ} {j : ℕ} {done : ℕ → Bool} {k : ℕ} → done ≡ nowhere
-    → k ≡ last_below 512 (unlike_in (row_of g j) done true) → Noting g g j done k
-noting_starts {g} {j} {done} none last =
+-- how far the last of its row that is not done is from none
+abbrev pub undone : List ℕ → ℕ → (ℕ → Bool) → ℕ
+undone g₀ j done = unlike_left (row_of g₀ j) done true
+
+pub noting_starts : {g : List ℕ} {j : ℕ} {done : ℕ → Bool} → done ≡ nowhere → Noting g g j done
+noting_starts {g} {j} {done} none =
     let nothing : (m : ℕ) → done m ≡ false = λ m. at m none in
     record {
       size = refl;
       within = λ m h. absurd (true≢false (sym h ∙ nothing m));
       readers = λ m i h. rw (nothing m, and-false (eqb i j)) (sym (or-false (row_of g (readers_row m) i)));
       others = λ n o. refl;
-      last = last;
     }
 
 -- a truth that is told again
@@ -73,50 +76,42 @@ again true b c = refl
 again false true c = or-true c
 again false false c = refl
 
-unlike_out : (a b : Bool) → (a && not (beq b true)) ≡ false → b ≡ false → a ≡ false
-unlike_out true true h f = f
-unlike_out true false h f = h
-unlike_out false b h f = refl
+module _ {g₀ g : List ℕ} {j : ℕ} {done : ℕ → Bool} (s : Noting g₀ g j done) (into : Drawable g₀ j) where
+  -- its own row is no reader's
+  same_row : row_of g j ≡ row_of g₀ j
+  same_row = s.others j (λ m h e. omega arith)
 
-module _ {g₀ g : List ℕ} {j : ℕ} {done : ℕ → Bool} {k : ℕ} (s : Noting g₀ g j done k) (into : Drawable g₀ j) where
-  pub noting_ends : 512 ≤ k → NotesReaders g₀ g j
-  unfolding unlike_in
-  noting_ends h = record {
+  pub noting_ends : LastOf (unlike_in (row_of g j) done true) None → NotesReaders g₀ g j
+  noting_ends last = record {
     size = s.size;
     readers = λ m i l. s.readers m i l ∙ ap (λ (b : Bool). row_of g₀ (readers_row m) i || (eqb i j && b)) (all m l);
     others = s.others;
   }
     where
-      missing : (m : ℕ) → m < 512 → unlike_in (row_of g₀ j) done true m ≡ false
-      missing =
-          let within = last_within (unlike_in (row_of g₀ j) done true) 512 (omega arith) in
-          last_none _ 512 (omega (arith, s.last)) (omega arith)
-
       all : (m : ℕ) → m < 512 → done m ≡ row_of g₀ j m
-      all m l = cases (done m)
-          (λ t. t ∙ sym (s.within m t))
-          (λ f. f ∙ sym (unlike_out (row_of g₀ j m) (done m) (missing m l) f))
+      all m l = cases (row_of g₀ j m)
+          (λ t. none_unlike (row_of g₀ j) done true (rw same_row at last) m l t ∙ sym t)
+          (λ f. cases (done m) (λ t. absurd (true≢false (sym (s.within m t) ∙ f))) (λ n. n ∙ sym f))
 
-  module _ {g' : List ℕ} {done' : ℕ → Bool} {k' : ℕ} (more : k < 512) (n : Notes g g' (readers_row k) j true)
-      (put : done' ≡ put_in done k true) (last' : k' ≡ last_below 512 (unlike_in (row_of g' j) done' true)) where
+  module _ {g' : List ℕ} {done' : ℕ → Bool} {k : ℕ} (last : LastOf (unlike_in (row_of g j) done true) (Some k))
+      (n : Notes g g' (readers_row k) j true) (put : done' ≡ put_in done k true) where
+    more : k < 512
+    more = last.small
+
+    is_last : LastOf (unlike_in (row_of g₀ j) done true) (Some k)
+    is_last = rw same_row at last
+
     done_more : done' ≡ updated done k true
     done_more = put ∙ rw (lt-ltb k 512 more) refl
 
-    same_row : row_of g' j ≡ row_of g₀ j
-    same_row = n.others j (λ e. omega arith) ∙ s.others j (λ m h e. omega arith)
-
-    next_last : k' ≡ last_below 512 (unlike_in (row_of g₀ j) (updated done k true) true)
-    next_last = rw (same_row, done_more) at last'
-
     -- it is of the row
     chosen : row_of g₀ j k ≡ true
-    unfolding unlike_in
-    chosen = ((and-eq-true_iff (row_of g₀ j k) _).0 (last_some (unlike_in (row_of g₀ j) done true) 512 k s.last more).1).0
+    chosen = last_member (row_of g₀ j) done true is_last
 
-    pub noting_falls : rank k' < rank k
-    noting_falls = rw next_last (last_falls (row_of g₀ j) done true s.last more)
+    pub noting_falls : undone g₀ j done' < undone g₀ j done
+    noting_falls = rw done_more (last_falls (row_of g₀ j) done true is_last)
 
-    pub noting_on : Noting g₀ g' j done' k'
+    pub noting_on : Noting g₀ g' j done'
     unfolding updated
     noting_on = rw done_more (record {
       size = n.size ∙ s.size;
@@ -127,7 +122,6 @@ module _ {g₀ g : List ℕ} {j : ℕ} {done : ℕ → Bool} {k : ℕ} (s : Noti
         | no o ↦ rw (ne_eqb m k o) (at i (n.others (readers_row m) (λ e. o (omega arith))) ∙ s.readers m i l)
       ];
       others = λ q o. n.others q (o k more) ∙ s.others q o;
-      last = next_last;
     })
 
 -- ---- one instance

@@ -36,8 +36,7 @@ use Rattle.gathering.specs.Shapes.{gist}
 use Rattle.gathering.specs.Gathered.{Takes}
 use Rattle.gathering.specs.Side.{SideTold, SideGathers}
 use Rattle.gathering.proofs.FoundWordsLaws.{add_fresh}
-use Rattle.finding.specs.declared.Found.{Found}
-use Rattle.finding.specs.Found.{Searchable, FoundIn}
+use Rattle.finding.specs.Found.{Found, Searchable, FoundIn}
 
 -- ---- the words of a beginning
 take_beginning : (n : ℕ) (l k : List Instance) → Begins l k → n ≤ length k → take n (map word k) ≡ take n (map word l)
@@ -140,7 +139,7 @@ module _ {bodies : List ℕ} {equations : List Equation} {start count : ℕ} {fi
   few_equations (e ∷ x) t = (word_readable (named searchable.model) e x t).0
 
   -- no room at all
-  pub no_room : {room : ℕ} {t : List ℕ} → room ≡ 0 → FoundIn model first room t t (record { count = 0; over = true })
+  pub no_room : {room : ℕ} {t : List ℕ} → room ≡ 0 → FoundIn model first room t t (record { count = room; over = true })
   no_room {room} h =
       let some = begins_length l (first ∷ []) (stage_prefix model first well [] (first ∷ []) (stage_start model first well)) in
       record { over = sym (lt-ltb room (length l) (omega (arith, some))); count = rw h refl; table = rw h refl }

@@ -20,8 +20,8 @@ use Rattle.gathering.specs.Shapes.{is_plain}
 use Rattle.gathering.specs.Side.{SideGathers}
 use Rattle.gathering.proofs.Noting.{noted_numbers, all_inside}
 use Rattle.gathering.proofs.ShapeLaws.{shape_plain}
-use Rattle.finding.specs.declared.Found.{Found}
-use Rattle.finding.specs.Found.{Searchable, Draws, Finds, FindsBefore}
+use Rattle.std.specs.Prelude.{Option, Some, None, unwrap_or}
+use Rattle.finding.specs.Found.{Found, told, Searchable, Draws, Finds, FindsBefore}
 use Rattle.finding.specs.Drawn.{Drawable, DrawsSide}
 use Rattle.finding.proofs.DrawnGraph.{Drawn, drawn_none, drawn_all, drawn_more}
 use Rattle.finding.proofs.Finding.{Searching, taken, copied_words, found_copied}
@@ -98,3 +98,8 @@ finds_copied {words = words} {table = table} {r = r} rest long f copied =
       draws = λ count first k over lent empty.
           rw (copied_words r.count words rest table few) (f.found.draws count first k over lent empty);
     })
+
+-- how many words are copied
+pub told_count : (room : ℕ) (r : Option ℕ) → unwrap_or r room ≡ (told room r).count
+told_count room None = refl
+told_count room (Some n) = refl

@@ -1,6 +1,7 @@
 -- DEFINITIONS: what finding the reached instances of a model promises.
 -- The table has the words of the reached instances, in the order of finding, as far as there is room.
-use Rattle.std.specs.Prelude.{ℕ, ◌≤◌, ◌≡◌, false, List, ◌++◌, map, ltb, length, take, drop}
+use Rattle.std.specs.Prelude.{ℕ, ◌≤◌, ◌≡◌, Bool, true, false, List, ◌++◌, map, ltb, length, take, drop}
+use Rattle.std.specs.Prelude.{Option, Some, None}
 use Rattle.meaning.specs.Models.{Model}
 use Rattle.meaning.specs.Reach.{Instance, reached}
 use Rattle.meaning.specs.Words.{word}
@@ -8,7 +9,16 @@ use Rattle.formulas.specs.declared.Equation.{Equation}
 use Rattle.truth.specs.Bits.{bit_of, nowhere}
 use Rattle.instances.specs.Models.{model_in, WellFormedModel}
 use Rattle.instances.specs.Graph.{graph_words, GraphOf}
-use Rattle.finding.specs.declared.Found.{Found}
+
+-- the words found: how many stand in the table, and whether one more was found than there is room
+pub record Found : Type 0 where
+  pub count : ℕ
+  pub over : Bool
+
+-- what the answer tells of a table with so much room: None where the words outnumber it, and it is full then
+abbrev pub told : ℕ → Option ℕ → Found
+told room None = record { count = room; over = true }
+told room (Some n) = record { count = n; over = false }
 
 -- the decoded bodies hold a well-formed model, and `start` is the word of its start
 pub record Searchable (bodies : List ℕ) (equations : List Equation) (start count : ℕ) (first : Instance)

@@ -1,7 +1,8 @@
 -- ONE REPLY: of a model that can be searched, two results, tables and rows left that the contract allows.
 -- Results and tables are equal, and rows as far as the graph goes: the contract has an equation of each part.
 use Rattle.std.specs.Prelude.{ℕ, ◌<◌, ◌≡◌, Bool, false, List, ◌++◌, map, length, take, drop}
-use Rattle.std.proofs.Common.{sym, ap, ap₂, ◌∙◌}
+use Rattle.std.specs.Prelude.{Option, Some, None, refl}
+use Rattle.std.proofs.Common.{sym, ap, ap₂, ◌∙◌, true≢false}
 use Rattle.meaning.specs.OneReply.{one_reply}
 use Rattle.meaning.specs.Reach.{Instance, reached}
 use Rattle.meaning.specs.Words.{word}
@@ -10,8 +11,7 @@ use Rattle.truth.specs.Bits.{bit_of, nowhere}
 use Rattle.truth.specs.Rows.{row_of}
 use Rattle.instances.specs.Models.{model_in}
 use Rattle.instances.specs.Graph.{readers_row, members_row, plain_row, graph_words, GraphOf}
-use Rattle.finding.specs.declared.Found.{Found}
-use Rattle.finding.specs.Found.{Searchable, Finds}
+use Rattle.finding.specs.Found.{Found, told, Searchable, Finds}
 
 -- the same rows of the graph of n instances
 pub record SameRows (n : ℕ) (xs ys : List ℕ) : Type 0 where
@@ -29,10 +29,17 @@ one_graph p q = record {
   plain = λ all j h. one_reply (p.plain all j h) (q.plain all j h);
 }
 
+-- two answers that tell the same are one
+same_told : (room : ℕ) (r s : Option ℕ) → told room r ≡ told room s → r ≡ s
+same_told room None None e = refl
+same_told room None (Some n) e = absurd (true≢false (ap (λ (a : Found). a.over) e))
+same_told room (Some n) None e = absurd (true≢false (ap (λ (a : Found). a.over) (sym e)))
+same_told room (Some n) (Some m) e = ap Some (ap (λ (a : Found). a.count) e)
+
 module _ (bodies : List ℕ) (equations : List Equation) (start room : ℕ) (table graph : List ℕ) (count : ℕ)
-    (first : Instance) (h : Searchable bodies equations start count first) {r s : Found}
-    {xs ys gs hs : List ℕ} (p : Finds bodies equations start room table xs graph gs r)
-    (q : Finds bodies equations start room table ys graph hs s) where
+    (first : Instance) (h : Searchable bodies equations start count first) (r s : Option ℕ)
+    {xs ys gs hs : List ℕ} (p : Finds bodies equations start room table xs graph gs (told room r))
+    (q : Finds bodies equations start room table ys graph hs (told room s)) where
   pub one_find : (r ≡ s) × (xs ≡ ys)
   one_find =
       let f = p.finds count first h in
@@ -40,14 +47,14 @@ module _ (bodies : List ℕ) (equations : List Equation) (start room : ℕ) (tab
       let both : ℕ → Bool → Found = λ n o. record { count = n; over = o } in
       let same = one_reply f.count g.count in
       let words = take room (map word (reached (model_in bodies equations count) first)) in (
-        ap₂ both same (one_reply f.over g.over),
+        same_told room r s (ap₂ both same (one_reply f.over g.over)),
         f.table ∙ ap (λ (n : ℕ). words ++ drop n table) same ∙ sym g.table,
       )
 
-  pub one_find_graph : r.over ≡ false → length graph ≡ graph_words → bit_of graph ≡ nowhere
-      → SameRows (length (take r.count xs)) gs hs
+  pub one_find_graph : (told room r).over ≡ false → length graph ≡ graph_words → bit_of graph ≡ nowhere
+      → SameRows (length (take (told room r).count xs)) gs hs
   one_find_graph over lent empty =
-      let same = ap₂ (λ (a : Found) (l : List ℕ). take a.count l) one_find.0 one_find.1 in
-      let over' = ap (λ (a : Found). a.over) (sym one_find.0) ∙ over in
+      let same = ap₂ (λ (a : Option ℕ) (l : List ℕ). take (told room a).count l) one_find.0 one_find.1 in
+      let over' = ap (λ (a : Option ℕ). (told room a).over) (sym one_find.0) ∙ over in
       one_graph (p.draws count first h over lent empty)
       (rw (← same) at (q.draws count first h over' lent empty))

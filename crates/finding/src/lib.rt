@@ -4,92 +4,63 @@
 
 mod drawing;
 
-ghost use Rattle.std.specs.Prelude.{◌≤◌, min, ◌≡◌, ◌++◌, length, take, drop};
-ghost use Rattle.finding.specs.Found.{FindsBefore, Finds};
+ghost use Rattle.std.specs.Prelude.{◌≤◌, min, length};
+ghost use Rattle.finding.specs.Found.{told, FindsBefore, Finds};
 
 use drawing::draw_side;
 use formulas::Equation;
 
-// The words found: how many stand in the table, and whether one more was found than there is room.
-#[derive(Clone, Copy)]
-pub struct Found {
-    pub count: usize,
-    pub over: bool,
-}
-
 // Finds the reached instances from the one with the word `start`, in order, as far as there is room in the
-// table, and draws their graph. Anything may be left behind the words found.
+// table, and draws their graph: how many they are, and None where one more was found than there is room.
+// Anything may be left behind the words found.
 fn find_in(
     bodies: &[u8],
     equations: [Equation; 8],
     start: u32,
     table: &mut [u32],
     graph: &mut [u64],
-) -> Found
+) -> Option<usize>
     requires { length table.old ≤ 512 }
     ensures { FindsBefore bodies.now equations start (length table.old)
-        table.new graph.old graph.new result }
+        table.new graph.old graph.new (told (length table.old) result) }
 {
     let room = table.len();
     if room == 0 {
-        return Found {
-            count: 0,
-            over: true,
-        };
+        return None;
     }
     table[0] = start;
     let mut found = 1;
     let mut i = 0;
+    // A while: the words found grow on the way.
     while i < found {
         let w = table[i];
         let side = gathering::gather_side(bodies, equations, w, table, found);
-        let n = side.found;
-        if room < n {
-            return Found {
-                count: room,
-                over: true,
-            };
+        if room < side.found {
+            return None;
         }
-        let reads = side.reads;
-        let shape = side.shape;
-        draw_side(graph, i, words::equation_number(w), reads, shape);
-        found = n;
+        draw_side(graph, i, words::equation_number(w), side.reads, side.shape);
+        found = side.found;
         i += 1;
     }
-    Found {
-        count: found,
-        over: false,
-    }
+    Some(found)
 }
 
-// The first `count` words are copied to the beginning of a table.
-fn copy_words(words: &[u32], count: usize, table: &mut [u32])
-    requires { (count ≤ length words.now) × (count ≤ length table.old) }
-    ensures { table.new
-        ≡ take count words.now ++ drop count table.old }
-{
-    let mut i = 0;
-    while i < count {
-        table[i] = words[i];
-        i += 1;
-    }
-}
-
-// Finds at most 512 of them, and leaves the rest of the table as it is.
+// Finds at most 512 of them, and leaves the rest of the table as it is: so the search has words of its own,
+// of which those found are copied.
 pub fn find(
     bodies: &[u8],
     equations: [Equation; 8],
     start: u32,
     table: &mut [u32],
     graph: &mut [u64],
-) -> Found
+) -> Option<usize>
     ensures { Finds bodies.now equations start (min (length table.old) 512)
-        table.old table.new graph.old graph.new result }
+        table.old table.new graph.old graph.new (told (min (length table.old) 512) result) }
 {
     let mut words = [0u32; 512];
-    let room = basics::smaller(table.len(), 512);
+    let room = table.len().min(512);
     let found = find_in(bodies, equations, start, &mut words[..room], graph);
-    let count = found.count;
-    copy_words(&words, count, table);
+    let count = found.unwrap_or(room);
+    table[..count].copy_from_slice(&words[..count]);
     found
 }

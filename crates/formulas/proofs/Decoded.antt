@@ -6,6 +6,7 @@ use native.Mathlib.Omega.{arith}
 use mathlib.Core.Path.{◌≡◌, refl, ap, ◌∙◌}
 use mathlib.Core.Bool.{Bool, true, false, false≢true}
 use mathlib.Core.List.{List, [], ◌∷◌}
+use Rattle.std.specs.Prelude.{Option, None, Some}
 use lib.Dec.{ltb, leb}
 use lib.ListN.{length, get_or}
 use borrow.Author.Tests.{eqb-true, leb-true}
@@ -13,9 +14,9 @@ use Rattle.meaning.specs.Logic.{Is, is, and_i, eq→Is}
 use Rattle.meaning.specs.Formulas.{Term, number, Formula, constant}
 use Rattle.meaning.specs.Ranges.{is_range, sound_term, sound_terms, sound}
 use Rattle.formulas.specs.declared.Kind.{Kind}
-use Rattle.formulas.specs.declared.Kind.TheVariants.{NoFormula, Constant, Join, Quantifier, Compare, Instance}
+use Rattle.formulas.specs.declared.Kind.TheVariants.{Constant, Join, Quantifier, Compare, Instance}
 use Rattle.formulas.specs.declared.TermKind.{TermKind}
-use Rattle.formulas.specs.declared.TermKind.TheVariants.{NoTerm, Number, Variable, Calculation}
+use Rattle.formulas.specs.declared.TermKind.TheVariants.{Number, Variable, Calculation}
 use Rattle.formulas.specs.Codes.{kind_of, term_kind_of, operands_of}
 use Rattle.formulas.specs.Decode.{Parsed, none, some, then, when, in_row, nth_term}
 use Rattle.formulas.specs.Decode.{term_of_kind, term_at, terms_at, formula_of_kind, formula_at}
@@ -86,13 +87,13 @@ pub SoundTerm : ℕ → Term → Type 0
 SoundTerm k t = Is (sound_term k t)
 
 module _ (s : List ℕ) (k : ℕ) where
-  every_term_kind : (sub : ℕ → Parsed Term) → ((at : ℕ) → Every (From (SoundTerm k) at) (sub at)) → (kind : TermKind) (c at : ℕ)
-      → Every (From (SoundTerm k) at) (term_of_kind sub kind c s k at)
+  every_term_kind : (sub : ℕ → Parsed Term) → ((at : ℕ) → Every (From (SoundTerm k) at) (sub at))
+      → (kind : Option TermKind) (c at : ℕ) → Every (From (SoundTerm k) at) (term_of_kind sub kind c s k at)
   unfolding term_of_kind SoundTerm sound_term
-  every_term_kind sub f NoTerm c at = unread
-  every_term_kind sub f Number c at = every_when (leb (get_or s (at + 1) 0) 15) (λ h. each (eq→Is h, omega arith))
-  every_term_kind sub f Variable c at = every_when (ltb (get_or s (at + 1) 0) k) (λ h. each (eq→Is h, omega arith))
-  every_term_kind sub f (Calculation plus) c at =
+  every_term_kind sub f None c at = unread
+  every_term_kind sub f (Some Number) c at = every_when (leb (get_or s (at + 1) 0) 15) (λ h. each (eq→Is h, omega arith))
+  every_term_kind sub f (Some Variable) c at = every_when (ltb (get_or s (at + 1) 0) k) (λ h. each (eq→Is h, omega arith))
+  every_term_kind sub f (Some (Calculation plus)) c at =
       every_when (is_range (get_or s (at + 1) 0)) (λ h. every_last _ (every_row (number 0) is sub f (c - 1) (at + 2))
       (λ ts e r. (and_i (and_i (eq→Is h) (r.all 0)) (r.all 1), omega (arith, r.on))))
 
@@ -122,19 +123,19 @@ earlier (each {e} h) = each {e = e} (h.0, omega (arith, h.1))
 
 module _ (s : List ℕ) where
   every_kind : (n : ℕ) (sub : ℕ → ℕ → ℕ → Parsed Formula) → ((k q at : ℕ) → Every (From (SoundFormula k q) at) (sub k q at))
-      → (kind : Kind) (c k q at : ℕ) → Every (From (SoundFormula k q) (at + 1)) (formula_of_kind n sub kind c s k q at)
+      → (kind : Option Kind) (c k q at : ℕ) → Every (From (SoundFormula k q) (at + 1)) (formula_of_kind n sub kind c s k q at)
   unfolding formula_of_kind SoundFormula SoundTerm sound
-  every_kind n sub f NoFormula c k q at = unread
-  every_kind n sub f (Constant b) c k q at = each {e = at + (1 + c)} (is, omega arith)
-  every_kind n sub f (Join all) c k q at =
+  every_kind n sub f None c k q at = unread
+  every_kind n sub f (Some (Constant b)) c k q at = each {e = at + (1 + c)} (is, omega arith)
+  every_kind n sub f (Some (Join all)) c k q at =
       every_last _ (every_row (constant false) is (sub k q) (f k q) c (at + 1)) (λ fs e r. (and_i (r.all 0) (r.all 1), r.on))
-  every_kind n sub f (Quantifier all) c k q at =
+  every_kind n sub f (Some (Quantifier all)) c k q at =
       every_when (ltb q 4) (λ d. every_when (is_range (get_or s (at + 1) 0)) (λ h.
       every_last _ (every_row (constant false) is (sub (k + 1) (q + 1)) (f (k + 1) (q + 1)) (c - 1) (at + 2))
       (λ fs e r. (and_i (and_i (eq→Is d) (eq→Is h)) (rw (add-one k, add-one q) at (r.all 0)), omega (arith, r.on)))))
-  every_kind n sub f (Compare t) c k q at =
+  every_kind n sub f (Some (Compare t)) c k q at =
       every_last _ (every_terms s k n c (at + 1)) (λ ts e r. (and_i (r.all 0) (r.all 1), r.on))
-  every_kind n sub f Instance c k q at =
+  every_kind n sub f (Some Instance) c k q at =
       every_when (leb (get_or s (at + 2) 0) 4) (λ h. every_last _ (every_terms s k n (get_or s (at + 2) 0) (at + (1 + c)))
       (λ ts e r. (and_i (eq→Is (ap (λ (x : ℕ). leb x 4) r.long ∙ h)) (all_sound k ts r.all), omega (arith, r.on))))
 

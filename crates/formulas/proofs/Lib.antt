@@ -1,7 +1,7 @@
+pub mod Columns
 pub mod Shapes
 pub mod Told
 pub mod ByKind
-pub mod Columns
 pub mod Bodies
 pub mod Signatures
 pub mod Decoded

@@ -1,36 +1,21 @@
 -- What the contracts of the formula reader's inner functions say; no word of the documents is defined here.
 -- `Told` is two-sided: whether something was read, and where it was, where it ends and what holds of it.
-use Rattle.std.specs.Prelude.{ℕ, zero, suc, ◌+◌, ◌-◌, ◌*◌, ◌≤◌, ◌<◌, min, Bool, true, false, cond, List, []}
-use Rattle.std.specs.Prelude.{◌∷◌, leb, ltb, length, get_or}
+use Rattle.std.specs.Prelude.{ℕ, zero, suc, ◌+◌, ◌*◌, ◌≤◌, ◌<◌, min, Bool, true, false, cond, List, []}
+use Rattle.std.specs.Prelude.{◌∷◌, ltb, length, get_or, Option, None, Some}
 use Rattle.meaning.specs.Formulas.{Term, Formula}
 use Rattle.formulas.specs.declared.Equation.{Equation}
-use Rattle.formulas.specs.declared.Kind.{Kind}
-use Rattle.formulas.specs.declared.Kind.TheVariants.{NoFormula, Constant, Join, Quantifier, Compare}
-use Rattle.formulas.specs.declared.Kind.TheVariants.{Instance}
-use Rattle.formulas.specs.declared.TermKind.{TermKind}
-use Rattle.formulas.specs.declared.TermKind.TheVariants.{NoTerm, Number, Variable, Calculation}
-use Rattle.formulas.specs.declared.Test.TheVariants.{Equal, Less, Unequal, NotLess}
+use Rattle.formulas.specs.declared.codes.Row as table
+use Rattle.formulas.specs.declared.codes.Row.TheVariants.{Formula as a_formula, Term as a_term}
+use Rattle.formulas.specs.Codes.{Row, row, no_row}
+use Rattle.formulas.specs.declared.Span.{Span}
 use Rattle.formulas.specs.Decode.{Parsed, none, some, term_at, terms_at, formula_at}
 use Rattle.formulas.specs.Shapes.{instance_at}
 
--- ---- what a column of the codes from 10 on has for a code; 0 for other codes
-abbrev pub column_entry : List ℕ → ℕ → ℕ
-column_entry column code = cond (leb 0x10 code) (get_or column (code - 0x10) 0) 0
-
--- ---- the numbers of the kinds, by which the reader's table has them: formulas from 1 on, terms from 12 on
-abbrev pub numbered_kinds : List Kind
-numbered_kinds =
-    NoFormula ∷ Constant false ∷ Constant true ∷ Join true ∷ Join false ∷ Quantifier true ∷ Quantifier false ∷
-    Compare Equal ∷ Compare Less ∷ Compare Unequal ∷ Compare NotLess ∷ Instance ∷ []
-
-unfoldable pub kind_numbered : ℕ → Kind
-kind_numbered n = get_or numbered_kinds n NoFormula
-
-abbrev pub numbered_term_kinds : List TermKind
-numbered_term_kinds = NoTerm ∷ Number ∷ Variable ∷ Calculation true ∷ Calculation false ∷ []
-
-unfoldable pub term_kind_numbered : ℕ → TermKind
-term_kind_numbered n = get_or numbered_term_kinds (n - 11) NoTerm
+-- ---- the row that the reader's table has for a code, as the row of the definition
+abbrev pub told_row : Option table.Row → Row
+told_row None = no_row
+told_row (Some (a_formula kind operands)) = row (Some kind) None operands
+told_row (Some (a_term kind operands)) = row None (Some kind) operands
 
 -- ---- the signatures as bytes: five for each equation, its four ranges and how many of them are parameters';
 -- in place 40 stands how many equations there are
@@ -60,16 +45,16 @@ pub data Told {A : Type 0} (P : A → Type 0) (e : ℕ) : Parsed A → Bool → 
   told : {a : A} → P a → Told P e (some a e) true
 
 -- n is deep enough: as many as the bytes that are left
-pub record TermTold (P : Term → Type 0) (s : List ℕ) (k at : ℕ) (ok : Bool) (e : ℕ) : Type 0 where
+pub record TermTold (s : List ℕ) (k at : ℕ) (P : Term → Type 0) (ok : Bool) (e : ℕ) : Type 0 where
   pub tells : (n : ℕ) → length s ≤ n + at → Told P e (term_at n s k at) ok
 
 -- c terms in a row
-pub record TermsTold (P : List Term → Type 0) (c : ℕ) (s : List ℕ) (k at : ℕ) (ok : Bool) (e : ℕ) : Type 0
+pub record TermsTold (c : ℕ) (s : List ℕ) (k at : ℕ) (P : List Term → Type 0) (ok : Bool) (e : ℕ) : Type 0
   where
     pub tells : (n : ℕ) → length s ≤ n + at → Told P e (terms_at n c s k at) ok
 
 -- the instance whose equation stands at `at`
-pub record InstanceTold (P : Formula → Type 0) (s : List ℕ) (k at : ℕ) (ok : Bool) (e : ℕ) : Type 0 where
+pub record InstanceTold (s : List ℕ) (k at : ℕ) (P : Formula → Type 0) (ok : Bool) (e : ℕ) : Type 0 where
   pub tells : (n : ℕ) → length s ≤ n + at → Told P e (instance_at n s k at) ok
 
 -- what is told where more must come after what is read: what ends past the limit may be refused. Where
@@ -78,6 +63,13 @@ pub data ToldWithin {A : Type 0} (limit size : ℕ) (P : A → Type 0) (e : ℕ)
   within : {p : Parsed A} {ok : Bool} → Told P e p ok → ToldWithin limit size P e p ok
   past : {a : A} {m : ℕ} → limit < size → limit < m → ToldWithin limit size P e (some a m) false
 
-pub record FormulaTold (P : Formula → Type 0) (s : List ℕ) (limit k q at : ℕ) (ok : Bool) (e : ℕ) : Type 0
+pub record FormulaTold (s : List ℕ) (limit k q at : ℕ) (P : Formula → Type 0) (ok : Bool) (e : ℕ) : Type 0
   where
     pub tells : (n : ℕ) → length s ≤ n + at → ToldWithin limit (length s) P e (formula_at n s k q at) ok
+
+-- what a span tells where there is one: P of what was found and what was read; and that nothing was read,
+-- where there is none
+abbrev pub Tells : {A T : Type 0} → ((A → Type 0) → Bool → ℕ → Type 0) → (T → A → Type 0) → Option (Span T)
+    → Type 0
+Tells R P None = R (λ a. Unit) false 0
+Tells R P (Some span) = R (P span.found) true span.next

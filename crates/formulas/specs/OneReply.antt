@@ -1,6 +1,6 @@
 -- ONE REPLY: for each public function two results that its contract allows are equal.
 -- Each contract has an equation of the whole result.
-use Rattle.std.specs.Prelude.{ℕ, ◌≡◌, Bool, List, get_or}
+use Rattle.std.specs.Prelude.{ℕ, ◌≡◌, Bool, List, get_or, Option}
 use Rattle.meaning.specs.OneReply.{one_reply}
 use Rattle.meaning.specs.Ranges.{is_range}
 use Rattle.formulas.specs.declared.Equation.{Equation}
@@ -10,12 +10,13 @@ use Rattle.formulas.specs.declared.Tuple.{Tuple}
 use Rattle.formulas.specs.Codes.{kind_of, term_kind_of, operands_of}
 use Rattle.formulas.specs.Tuples.{items, Pushes}
 use Rattle.formulas.specs.Bodies.{ranges_of, signatures_of, is_body, is_fitting}
-use Rattle.formulas.specs.Ends.{condition_end, terms_end}
+use Rattle.formulas.specs.Ends.{condition_place, terms_place}
 
-pub one_kind_of : (code : ℕ) {r s : Kind} → r ≡ kind_of code → s ≡ kind_of code → r ≡ s
+pub one_kind_of : (code : ℕ) {r s : Option Kind} → r ≡ kind_of code → s ≡ kind_of code → r ≡ s
 one_kind_of code = one_reply
 
-pub one_term_kind_of : (code : ℕ) {r s : TermKind} → r ≡ term_kind_of code → s ≡ term_kind_of code → r ≡ s
+pub one_term_kind_of : (code : ℕ) {r s : Option TermKind}
+    → r ≡ term_kind_of code → s ≡ term_kind_of code → r ≡ s
 one_term_kind_of code = one_reply
 
 pub one_operands_of : (code : ℕ) {r s : ℕ} → r ≡ operands_of code → s ≡ operands_of code → r ≡ s
@@ -40,11 +41,11 @@ pub one_is_fitting : (body : List ℕ) (e : Equation) (equations : List Equation
     → s ≡ is_fitting (signatures_of equations count) body (ranges_of e) → r ≡ s
 one_is_fitting body e equations count = one_reply
 
-pub one_condition_end : (body : List ℕ) (at : ℕ) (scope : Tuple) {r s : ℕ}
-    → r ≡ condition_end body at (items scope) → s ≡ condition_end body at (items scope) → r ≡ s
+pub one_condition_end : (body : List ℕ) (at : ℕ) (scope : Tuple) {r s : Option ℕ}
+    → r ≡ condition_place body at (items scope) → s ≡ condition_place body at (items scope) → r ≡ s
 one_condition_end body at scope = one_reply
 
-pub one_terms_end : (body : List ℕ) (at : ℕ) (scope ranges : Tuple) {r s : ℕ}
-    → r ≡ terms_end body at (items scope) (items ranges)
-    → s ≡ terms_end body at (items scope) (items ranges) → r ≡ s
+pub one_terms_end : (body : List ℕ) (at : ℕ) (scope ranges : Tuple) {r s : Option ℕ}
+    → r ≡ terms_place body at (items scope) (items ranges)
+    → s ≡ terms_place body at (items scope) (items ranges) → r ≡ s
 one_terms_end body at scope ranges = one_reply

@@ -1,74 +1,76 @@
-// What each code begins, and how many operands come after it, in two tables.
-ghost use Rattle.std.specs.Prelude.{true, false, ◌≡◌};
-ghost use Rattle.formulas.specs.Codes.{kind_of, term_kind_of, operands_of};
-ghost use Rattle.formulas.specs.Contract.{column_entry, kind_numbered, term_kind_numbered};
+// What each code begins, and how many operands come after it, in one table.
+ghost use Rattle.std.specs.Prelude.{◌≡◌};
+ghost use Rattle.formulas.specs.Codes.{row_of, kind_of, term_kind_of, operands_of};
+ghost use Rattle.formulas.specs.Contract.{told_row};
 
 use crate::{Kind, TermKind, Test};
 
-// Of each code from 10 to 23 the number of its kind; 0 for what begins neither a formula nor a term.
-const KINDS: [u8; 20] = [
-    1, 2, 3, 4, 5, 6, 7, 8, 9, 10, 11, 0, 0, 0, 0, 0, 12, 13, 14, 15,
+// What a code begins, and how many operands come after it.
+#[derive(Clone, Copy)]
+enum Row {
+    Formula(Kind, u8),
+    Term(TermKind, u8),
+}
+
+// The codes from 10 to 23.
+static ROWS: [Option<Row>; 20] = [
+    Some(Row::Formula(Kind::Constant(false), 0)),
+    Some(Row::Formula(Kind::Constant(true), 0)),
+    Some(Row::Formula(Kind::Join(true), 2)),
+    Some(Row::Formula(Kind::Join(false), 2)),
+    Some(Row::Formula(Kind::Quantifier(true), 2)),
+    Some(Row::Formula(Kind::Quantifier(false), 2)),
+    Some(Row::Formula(Kind::Compare(Test::Equal), 2)),
+    Some(Row::Formula(Kind::Compare(Test::Less), 2)),
+    Some(Row::Formula(Kind::Compare(Test::Unequal), 2)),
+    Some(Row::Formula(Kind::Compare(Test::NotLess), 2)),
+    Some(Row::Formula(Kind::Instance, 2)),
+    None,
+    None,
+    None,
+    None,
+    None,
+    Some(Row::Term(TermKind::Number, 1)),
+    Some(Row::Term(TermKind::Variable, 1)),
+    Some(Row::Term(TermKind::Calculation(true), 3)),
+    Some(Row::Term(TermKind::Calculation(false), 3)),
 ];
 
-// Of the same codes how many operands come after them.
-const OPERANDS: [u8; 20] = [0, 0, 2, 2, 2, 2, 2, 2, 2, 2, 2, 0, 0, 0, 0, 0, 1, 1, 3, 3];
-
-// What a column of the codes from 10 to 23 has for a code; 0 for other codes.
-fn entry(column: [u8; 20], code: u8) -> u8
-    ensures { result ≡ column_entry column code }
+// Codes below and past those of the table begin nothing.
+fn row_of(code: u8) -> Option<Row>
+    ensures { told_row result ≡ row_of code }
 {
-    if code < 0x10 {
-        return 0;
+    if 0x10 <= code && code <= 0x23 {
+        ROWS[usize::from(code - 0x10)]
+    } else {
+        None
     }
-    if 0x23 < code {
-        return 0;
-    }
-    let i = basics::wide(code - 0x10);
-    column[i]
 }
 
-// The number of a code's kind, to which `kind_of` and `term_kind_of` give a name.
-fn number_of(code: u8) -> u8
-    ensures { (kind_numbered result ≡ kind_of code) × (term_kind_numbered result ≡ term_kind_of code) }
-{
-    entry(KINDS, code)
-}
-
-pub fn kind_of(code: u8) -> Kind
+pub fn kind_of(code: u8) -> Option<Kind>
     ensures { result ≡ kind_of code }
 {
-    let n = number_of(code);
-    match n {
-        1 => Kind::Constant(false),
-        2 => Kind::Constant(true),
-        3 => Kind::Join(true),
-        4 => Kind::Join(false),
-        5 => Kind::Quantifier(true),
-        6 => Kind::Quantifier(false),
-        7 => Kind::Compare(Test::Equal),
-        8 => Kind::Compare(Test::Less),
-        9 => Kind::Compare(Test::Unequal),
-        10 => Kind::Compare(Test::NotLess),
-        11 => Kind::Instance,
-        _ => Kind::NoFormula,
+    match row_of(code) {
+        Some(Row::Formula(kind, _)) => Some(kind),
+        _ => None,
     }
 }
 
-pub fn term_kind_of(code: u8) -> TermKind
+pub fn term_kind_of(code: u8) -> Option<TermKind>
     ensures { result ≡ term_kind_of code }
 {
-    let n = number_of(code);
-    match n {
-        12 => TermKind::Number,
-        13 => TermKind::Variable,
-        14 => TermKind::Calculation(true),
-        15 => TermKind::Calculation(false),
-        _ => TermKind::NoTerm,
+    match row_of(code) {
+        Some(Row::Term(kind, _)) => Some(kind),
+        _ => None,
     }
 }
 
+// Of a code that begins nothing, 0: the definition `operands_of` says so.
 pub fn operands_of(code: u8) -> u8
     ensures { result ≡ operands_of code }
 {
-    entry(OPERANDS, code)
+    match row_of(code) {
+        Some(Row::Formula(_, operands) | Row::Term(_, operands)) => operands,
+        None => 0,
+    }
 }

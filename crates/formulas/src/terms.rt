@@ -1,65 +1,50 @@
 // The reader of terms: a term calls on the terms inside it.
-ghost use Rattle.std.specs.Prelude.{◌≡◌, ◌≤◌, length};
+ghost use Rattle.std.specs.Prelude.{◌≡◌};
 ghost use Rattle.meaning.specs.Ranges.{term_range};
 ghost use Rattle.formulas.specs.Tuples.{items};
-ghost use Rattle.formulas.specs.Contract.{TermTold};
+ghost use Rattle.formulas.specs.Contract.{TermTold, Tells};
 
 use crate::codes::{operands_of, term_kind_of};
 use crate::tuples::item;
-use crate::{TermKind, Tuple, is_range};
+use crate::{Span, TermKind, Tuple, is_range};
 
-// Whether a term was read, its range, and where it ends.
-#[derive(Clone, Copy)]
-pub(crate) struct TermSpan {
-    pub(crate) ok: bool,
-    pub(crate) range: u8,
-    pub(crate) next: usize,
-}
-
-fn term_result(ok: bool, range: u8, next: usize) -> TermSpan
-    ensures { result ≡ record { ok = ok; range = range; next = next } }
-{
-    TermSpan { ok, range, next }
-}
-
-// The term at `at` of a body.
-pub(crate) fn read_term(body: &[u8], at: usize, scope: Tuple) -> TermSpan
-    requires { length body.now ≤ 256 }
-    ensures { TermTold (λ t. result.range ≡ term_range t (items scope)) body.now scope.count
-        at result.ok result.next }
+// The term at `at` of a body, and its range.
+pub(crate) fn read_term(body: &[u8], at: usize, scope: Tuple) -> Option<Span<u8>>
+    ensures { Tells (TermTold body.now scope.count at) (λ range t. range ≡ term_range t (items scope))
+        result }
 {
     if body.len() <= at {
-        return term_result(false, 0, at);
+        return None;
     }
     let code = basics::element(body, at);
     let x = basics::element(body, at + 1);
-    let next = at + (1 + basics::wide(operands_of(code)));
-    let kind = term_kind_of(code);
-    match kind {
-        TermKind::NoTerm => term_result(false, 0, at),
+    let next = at + 1 + usize::from(operands_of(code));
+    match term_kind_of(code)? {
         TermKind::Number => {
             if 15 < x {
-                return term_result(false, 0, at);
+                return None;
             }
-            term_result(true, x + 1, next)
+            Some(Span { found: x + 1, next })
         }
         TermKind::Variable => {
-            if scope.count <= basics::wide(x) {
-                return term_result(false, 0, at);
+            if scope.count <= usize::from(x) {
+                return None;
             }
-            term_result(true, item(scope, x), next)
+            Some(Span {
+                found: item(scope, x),
+                next,
+            })
         }
         TermKind::Calculation(_) => {
             if !is_range(x) {
-                return term_result(false, 0, at);
+                return None;
             }
-            let a = read_term(body, at + 2, scope);
-            let m = a.next;
-            if !a.ok {
-                return term_result(false, 0, m);
-            }
-            let b = read_term(body, m, scope);
-            term_result(b.ok, x, b.next)
+            let a = read_term(body, at + 2, scope)?;
+            let b = read_term(body, a.next, scope)?;
+            Some(Span {
+                found: x,
+                next: b.next,
+            })
         }
     }
 }

@@ -8,31 +8,32 @@ use crate::Tuple;
 pub fn push(tuple: Tuple, value: u8) -> Tuple
     ensures { Pushes tuple value result }
 {
-    let mut s = tuple;
-    let n = s.count;
-    if n < 8 {
-        s.values[n] = value;
-        s.count = n + 1;
+    let mut longer = tuple;
+    if tuple.count < 8 {
+        longer.values[tuple.count] = value;
+        longer.count += 1;
     }
-    s
+    longer
 }
 
-// Number i of them; 0 where there are not so many.
+// Number i of them; 0 where there are not so many: `get_or` in its promise names it.
 pub fn item(tuple: Tuple, i: u8) -> u8
     ensures { result ≡ get_or (items tuple) i 0 }
 {
-    let j = i as usize;
-    if tuple.count <= j {
-        return 0;
+    let j = usize::from(i);
+    if j < tuple.count.min(8) {
+        tuple.values[j]
+    } else {
+        0
     }
-    if j < 8 { tuple.values[j] } else { 0 }
 }
 
 // The same bytes, and no more counted than there are.
 pub(crate) fn counted(tuple: Tuple) -> Tuple
     ensures { (items result ≡ items tuple) × ((result.count ≡ length (items tuple)) × (result.count ≤ 8)) }
 {
-    let values = tuple.values;
-    let count = basics::smaller(tuple.count, 8);
-    Tuple { values, count }
+    Tuple {
+        count: tuple.count.min(8),
+        ..tuple
+    }
 }

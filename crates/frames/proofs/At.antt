@@ -1,18 +1,17 @@
 -- The line that begins at a place, as the code sees it: a part of the text between two places.
 -- Where it ends is known, so its characters and its length are; then the tests are rewritten in their order.
-use Prim.Native.Nat.{ℕ, suc, ◌+◌, ◌-◌, ◌/◌, ◌≤◌, ◌<◌, min}
+use Prim.Native.Nat.{ℕ, suc, ◌+◌, ◌-◌, ◌≤◌, ◌<◌, min}
 use native.Mathlib.Omega.{arith}
 use native.Mathlib.Decide.{dec_le}
-use mathlib.Core.Path.{◌≡◌, refl, sym, ap, ◌∙◌}
+use mathlib.Core.Path.{◌≡◌, refl, sym, ap, ap₂, ◌∙◌}
 use mathlib.Core.Bool.{Bool, true, false, cond}
 use mathlib.Core.List.{List, [], ◌∷◌}
 use lib.Dec.{eqb, leb, ltb}
 use lib.ListN.{length, take, drop, length-drop, drop_of_length-le}
 use lib.Seq.{length-take-le}
 use borrow.Author.Tests.{le-leb, lt-leb}
-use Rattle.digits.specs.Digits.{bytes_of, padded}
-use Rattle.frames.specs.Lines.{all_digits, is_valid_size, is_valid_line, line_refusal}
-use Rattle.frames.specs.FrameAt.{first_length, line_at, refused_at, frame_at}
+use Rattle.frames.specs.declared.FrameAt.{FrameAt}
+use Rattle.frames.specs.FrameAt.{first_length, line_at, told_at, told, frame_in, frame_of, frame_at}
 
 pub first_length_most : (s : List ℕ) → first_length s ≤ length s
 unfolding first_length
@@ -57,23 +56,11 @@ module _ (t : List ℕ) (at : ℕ) {from end : ℕ} (f : from ≡ min at (length
       let r = length-drop at t in
       same_leb (suc end) (length t) (suc size) (length (drop at t)) (λ h. omega (arith, ends)) (λ h. omega (arith, ends))
 
-  module _ {d : Bool} (dd : d ≡ all_digits (take (end - from) (drop from t))) where
-    digits_are : d ≡ all_digits (line_at t at).characters
-    digits_are = dd ∙ ap all_digits characters_are
+  line_is : record { characters = take (end - from) (drop from t); ended = ltb end (length t) } ≡ line_at t at
+  line_is = ap₂ (λ (l : List ℕ) (b : Bool). record { characters = l; ended = b }) characters_are ended_is
 
-    pub no_digit : d ≡ false → refused_at 2 end ≡ frame_at t at
-    unfolding frame_at line_refusal
-    no_digit x = rw (← digits_are, x, ends, f) refl
-
-    module _ (x : d ≡ true) {v : Bool} (vv : v ≡ is_valid_size (end - from) (ltb end (length t))) where
-      valid_is : v ≡ is_valid_line (line_at t at)
-      valid_is = vv ∙ rw (size_is, ended_is) refl
-
-      pub wrong_size : v ≡ false → refused_at 3 end ≡ frame_at t at
-      unfolding frame_at line_refusal
-      wrong_size y = rw (← digits_are, x, ← valid_is, y, ends, f) refl
-
-      pub a_frame : {bytes : List ℕ} → v ≡ true → bytes ≡ padded (bytes_of (take (end - from) (drop from t)))
-          → record { number = 0; end = end; size = (end - from) / 2; bytes = bytes } ≡ frame_at t at
-      unfolding frame_at line_refusal
-      a_frame y b = rw (b, characters_are, size_is, ← digits_are, x, ← valid_is, y, ends, f) refl
+  pub frame_there : (r : FrameAt) → r.end ≡ end
+      → ((e : ℕ) → told_at e r.frame ≡ frame_of (take (end - from) (drop from t)) (ltb end (length t)) e)
+      → told r ≡ frame_at t at
+  unfolding frame_at
+  frame_there r h k = k r.end ∙ ap₂ frame_in line_is (h ∙ rw (← f) ends)

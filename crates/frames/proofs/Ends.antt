@@ -1,39 +1,40 @@
--- Where a line ends, and whether its characters are digits.
+-- Where a line ends, and whether its characters are digits, as the searches of the code tell it.
 -- One character further.
-use Prim.Native.Nat.{ℕ, suc, ◌+◌, ◌≤◌, ◌<◌}
+use Prim.Native.Nat.{ℕ, zero, suc, ◌+◌, ◌<◌}
+use native.Mathlib.Omega.{arith}
 use native.Mathlib.Numerals.{add-one}
-use mathlib.Core.Path.{◌≡◌, refl}
-use mathlib.Core.Bool.{true, false}
-use mathlib.Core.List.{List}
-use lib.ListN.{length, get_or, drop, drop_of_length-le}
-use lib.Seq.{drop-cons}
-use borrow.Author.Tests.{eq-eqb, ne_eqb, le-leb, lt-leb}
-use Rattle.digits.specs.Digits.{worth_of}
+use mathlib.Core.Path.{◌≡◌, refl, sym}
+use mathlib.Core.Bool.{Bool, true, false, and-false}
+use mathlib.Core.List.{List, [], ◌∷◌}
+use lib.ListN.{length}
+use borrow.Author.Tests.{eq-eqb, ne_eqb}
+use Rattle.std.specs.Bool.{MatchBool}
+use Rattle.std.specs.List.{AllWithin, HoldsAt}
+use Rattle.digits.specs.Digits.{is_digit}
 use Rattle.frames.specs.Lines.{all_digits}
 use Rattle.frames.specs.FrameAt.{first_length}
 
-module _ (t : List ℕ) (i : ℕ) where
-  pub size_past : i < length t → (get_or t i 0 ≡ 10 → ⊥) → first_length (drop i t) ≡ suc (first_length (drop (i + 1) t))
-  unfolding first_length
-  size_past lt ne = rw (add-one, drop-cons t i 0 lt, ne_eqb (get_or t i 0) 10 ne)
+pub size_hit : (c : ℕ) (s : List ℕ) → c ≡ 10 → first_length (c ∷ s) ≡ 0
+unfolding first_length
+size_hit c s eq = rw (eq-eqb c 10 eq) refl
 
-  pub size_hit : i < length t → get_or t i 0 ≡ 10 → first_length (drop i t) ≡ 0
-  unfolding first_length
-  size_hit lt eq = rw (drop-cons t i 0 lt, eq-eqb (get_or t i 0) 10 eq)
+pub size_past : (c : ℕ) (s : List ℕ) → (c ≡ 10 → ⊥) → first_length (c ∷ s) ≡ first_length s + 1
+unfolding first_length
+size_past c s ne = rw (ne_eqb c 10 ne, add-one) refl
 
-  pub size_end : length t ≤ i → first_length (drop i t) ≡ 0
-  unfolding first_length
-  size_end le = rw (drop_of_length-le t le)
+each_digit : (s : List ℕ) → AllWithin (λ c. is_digit c ≡ true) s 0 (length s) → all_digits s ≡ true
+unfolding all_digits
+each_digit [] h = refl
+each_digit (c ∷ s) h =
+    rw (h 0 0 (omega arith) (omega arith), each_digit s (λ k d l m. h (suc k) d (omega arith) (omega arith))) refl
 
-  pub digits_none : length t ≤ i → all_digits (drop i t) ≡ true
-  unfolding all_digits
-  digits_none h = rw (drop_of_length-le t h)
+one_none : (s : List ℕ) (k : ℕ) → k < length s → HoldsAt (λ c. is_digit c ≡ false) s k → all_digits s ≡ false
+unfolding all_digits
+one_none [] k l h = absurd (omega arith)
+one_none (c ∷ s) zero l h = rw (h 0) refl
+one_none (c ∷ s) (suc k) l h = rw (one_none s k (omega arith) h, and-false) refl
 
-  pub digits_no : {w : ℕ} → i < length t → w ≡ worth_of (get_or t i 0) → 15 < w → all_digits (drop i t) ≡ false
-  unfolding all_digits
-  digits_no {w} h e b = rw (drop-cons t i 0 h, ← e, lt-leb w 15 b) refl
-
-  pub digits_yes : {w : ℕ} → i < length t → w ≡ worth_of (get_or t i 0) → w ≤ 15
-      → all_digits (drop i t) ≡ all_digits (drop (i + 1) t)
-  unfolding all_digits
-  digits_yes {w} h e b = rw (drop-cons t i 0 h, ← e, le-leb w 15 b, add-one) refl
+pub digits_said : (b : Bool) (s : List ℕ) → MatchBool b (AllWithin (λ c. is_digit c ≡ true) s 0 (length s))
+    ((k : ℕ) × (k < length s) × HoldsAt (λ c. is_digit c ≡ false) s k) → b ≡ all_digits s
+digits_said true s h = sym (each_digit s h)
+digits_said false s h = sym (one_none s h.0 h.1 h.2)

@@ -61,11 +61,6 @@ pub record Writing (out₀ : List ℕ) (at : ℕ) (bytes out : List ℕ) (place 
   pub room : at + (2 * length bytes + 1) ≤ length out₀
   pub left : sets out place (line_of (drop i bytes)) ≡ sets out₀ at (line_of bytes)
 
-pub writing_start : (out : List ℕ) (at : ℕ) (bytes : List ℕ) → at + (2 * length bytes + 1) ≤ length out
-    → Writing out at bytes out at 0
-writing_start out at bytes h =
-    record { near = omega arith; there = omega arith; long = refl; room = h; left = refl }
-
 module _ {out₀ : List ℕ} {at : ℕ} {bytes out : List ℕ} {place i : ℕ} (w : Writing out₀ at bytes out place i) where
   pub writing_more : {out' : List ℕ} {b : ℕ} → i < length bytes → b ≡ get_or bytes i 0 → out' ≡ sets out place (digits_of b)
       → Writing out₀ at bytes out' (place + 2) (i + 1)

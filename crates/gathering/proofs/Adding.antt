@@ -5,15 +5,15 @@ use native.Mathlib.Omega.{arith}
 use native.Mathlib.Numerals.{add-one as one_more}
 use mathlib.Core.Path.{◌≡◌, refl, sym, ap, ◌∙◌}
 use mathlib.Core.Bool.{false}
+use Rattle.std.proofs.Common.{Some, None}
 use mathlib.Core.List.{List, [], ◌∷◌, ◌++◌}
 use lib.ListN.{length, take, set, length-set}
 use lib.Seq.{length-take-le, take-suc-set}
 use borrow.Author.Tests.{lt-ltb, le-ltb}
 use Rattle.evaluator.specs.Values.{index_of}
-use Rattle.gathering.specs.declared.walk.Added.{Added}
 use Rattle.gathering.specs.FoundWords.{FoundWords, has_word, add-one, number_of}
 use Rattle.gathering.proofs.FoundWordsLaws.{add_known, add_new, add_last}
-use Rattle.gathering.specs.Filling.{found_of, found_words, Adds, found_fits, found_over}
+use Rattle.gathering.specs.Filling.{found_of, found_words, added_word, Adds, found_fits, found_over}
 
 -- there is room for the n words found, and w is not among them
 pub record New (t : List ℕ) (n w at : ℕ) : Type 0 where
@@ -21,14 +21,11 @@ pub record New (t : List ℕ) (n w at : ℕ) : Type 0 where
   pub looked : at ≡ index_of (take n t) w
   pub absent : n ≤ at
 
-abbrev pub added_at : ℕ → ℕ → Added
-added_at found at = record { found = found; at = at }
-
 module _ (t : List ℕ) (n w : ℕ) where
   abbrev room : ℕ
   room = length t
 
-  pub adds_full : n ≤ room + 1 → room < n → Adds room t t n w (added_at n 512)
+  pub adds_full : n ≤ room + 1 → room < n → Adds room t t n w (added_word n None)
   unfolding add-one
   adds_full few h = record {
     within = few;
@@ -48,7 +45,7 @@ module _ (t : List ℕ) (n w : ℕ) where
     numbered : {at : ℕ} → at ≡ index_of (take n t) w → at ≡ number_of (found_words t (found_of room n)) w
     numbered e = e ∙ sym (ap (λ (s : FoundWords). number_of s w) (found_fits room t fits))
 
-    pub adds_there : {at : ℕ} → at ≡ index_of (take n t) w → at < n → Adds room t t n w (added_at n at)
+    pub adds_there : {at : ℕ} → at ≡ index_of (take n t) w → at < n → Adds room t t n w (added_word n (Some at))
     adds_there e h =
         let there = lt-ltb (index_of (take n t) w) (length (take n t)) (omega (arith, known_length, e)) in
         let known = add_known room (take n t) w there in
@@ -66,7 +63,7 @@ module _ {t : List ℕ} {n w at : ℕ} (new : New t n w at) where
   unknown : has_word (take n t) w ≡ false
   unknown = le-ltb (index_of (take n t) w) (length (take n t)) (omega (arith, long, new.absent, new.looked))
 
-  pub adds_past : length t ≤ n → Adds (length t) t t n w (added_at (n + 1) at)
+  pub adds_past : length t ≤ n → Adds (length t) t t n w (added_word (n + 1) (Some at))
   adds_past h =
       let whole : length t ≡ n = omega (arith, new.fits) in
       let last = add_last n (take n t) w unknown (omega (arith, long)) in
@@ -77,7 +74,7 @@ module _ {t : List ℕ} {n w at : ℕ} (new : New t n w at) where
         numbered = numbered t n w new.fits new.looked;
       }
 
-  pub adds_behind : n < length t → Adds (length t) t (set t n w) n w (added_at (n + 1) at)
+  pub adds_behind : n < length t → Adds (length t) t (set t n w) n w (added_word (n + 1) (Some at))
   adds_behind h =
       let longer : take (n + 1) (set t n w) ≡ take n t ++ (w ∷ []) = rw (one_more n) (take-suc-set t n w (omega arith)) in
       record {

@@ -6,18 +6,16 @@ use native.Mathlib.Nat.{sub-zero}
 use mathlib.Core.Path.{◌≡◌, refl, sym, ap, ap₂, ◌∙◌, fun_ext}
 use mathlib.Core.Bool.{Bool, true, false, true≢false, cond, not}
 use mathlib.Core.List.{List, [], ◌∷◌, ◌++◌}
-use lib.Dec.{ltb}
 use lib.ListN.{length}
-use borrow.Author.Tests.{ltb-true}
+use borrow.Author.Tests.{lt-ltb, le-ltb}
 use Rattle.meaning.specs.Logic.{over, over_related}
 use Rattle.meaning.specs.Over.{between, between_one, between_parts}
 use Rattle.meaning.specs.Formulas.{Formula, constant, quantified, test_holds}
 use Rattle.meaning.specs.Ranges.{is_range}
-use Rattle.meaning.proofs.Typed.{range_positive}
 use Rattle.meaning.specs.Simplification.{leaf, Simplified, decided, left, join_simplified, simplified}
 use Rattle.meaning.specs.Reach.{leaves, instances}
 use Rattle.formulas.specs.declared.Kind.{Kind}
-use Rattle.formulas.specs.declared.Kind.TheVariants.{NoFormula, Constant, Join, Quantifier, Compare, Instance}
+use Rattle.formulas.specs.declared.Kind.TheVariants.{Constant, Join, Quantifier, Compare, Instance}
 use Rattle.formulas.specs.declared.Test.{Test}
 use Rattle.formulas.specs.Decode.{test_of}
 use Rattle.truth.specs.Bits.{bit_of, put_in}
@@ -32,7 +30,9 @@ use Rattle.evaluator.proofs.FormulaLaws.{Head}
 use Rattle.instances.specs.Graph.{words_left}
 use Rattle.gathering.specs.declared.Shape.{Shape}
 use Rattle.gathering.specs.declared.Shape.TheVariants.{Decided}
-use Rattle.gathering.specs.declared.shapes.Left.{Left}
+use Rattle.looked.specs.declared.Looked.{Looked}
+use Rattle.looked.specs.Alone.{alone}
+use Rattle.std.proofs.Common.{Option, Some, None}
 use Rattle.gathering.specs.FoundWords.{FoundWords, add, noted}
 use Rattle.gathering.proofs.FoundWordsLaws.{add_append, noted_append, found_before}
 use Rattle.gathering.specs.Shapes.{is_decided, decides, joined_shape, shape_of, tree_shape}
@@ -41,7 +41,7 @@ use Rattle.gathering.proofs.ShapeLaws.{pair, shape_join, gist_associative, gist_
 use Rattle.gathering.proofs.ShapeLaws.{decider_joined, decider_whole, open_decides_none, words_joined, decider_is}
 use Rattle.gathering.proofs.ShapeLaws.{joins_decided}
 use Rattle.gathering.proofs.Repeats.{copies, takes_copies}
-use Rattle.gathering.specs.Gathered.{range_of, left_of, joined_parts, Store, store, Takes, TakesLeft}
+use Rattle.gathering.specs.Gathered.{left_of, joined_parts, Store, store, Takes, TakesLeft}
 use Rattle.gathering.specs.Gathered.{TakesParts, Within, GathersInstance, GathersLeft, GathersOver}
 
 -- ---- what is taken
@@ -153,77 +153,63 @@ module _ {all : Bool} {t e : Store} {shape : Shape} {x : Gist} where
           rw (sums.words free) (record { added = whole.added; noted = whole.noted; shaped = shaped })
 
 -- ---- nothing is added
-module _ {f : Formula} {v : List ℕ} {t : Store} {r : Left} (l : t.found ≤ length t.table + 1) where
-  gather_nothing : gist (simplified f v) ≡ pair [] r.shape → Settled r.looked v (simplified f)
+module _ {f : Formula} {v : List ℕ} {t : Store} {r : Looked Shape} (l : t.found ≤ length t.table + 1) where
+  gather_nothing : gist (simplified f v) ≡ pair [] r.value → Settled r.looked v (simplified f)
       → GathersLeft f v t t r
   gather_nothing e s = record { within = record { few = l; size = refl }; takes = takes_none e; settled = s }
 
 pub gather_constant : {f : Formula} (v : List ℕ) {t : Store} (b : Bool) → t.found ≤ length t.table + 1 → f ≡ constant b
-    → GathersLeft f v t t (left_of (Decided b) 0)
+    → GathersLeft f v t t (alone (Decided b))
 unfolding simplified instances shape_of
 gather_constant v b l e = rw e (gather_nothing l refl (settled_constant (decided b)))
 
 -- ---- the formula at a place, by the kind of the code that stands there
 -- the formula of a kind at a place
-abbrev formula_of : Kind → List ℕ → ℕ → ℕ → Formula
+abbrev formula_of : Option Kind → List ℕ → ℕ → ℕ → Formula
 formula_of kind p = formula_by (term_there p) (formula_there p) kind p
 
-module _ {p : List ℕ} {at : ℕ} {kind : Kind} (head : Head p at kind) (k : ℕ) where
-  by_kind : {is : Kind} → kind ≡ is → formula_there p k at ≡ formula_of is p k at
-  by_kind e = formula_step p k at head.inside ∙ ap (λ (x : Kind). formula_of x p k at) (sym head.named ∙ e)
+module _ {p : List ℕ} {at : ℕ} {kind : Kind} (head : Head p at (Some kind)) (k : ℕ) where
+  by_kind : {is : Kind} → kind ≡ is → formula_there p k at ≡ formula_of (Some is) p k at
+  by_kind e = formula_step p k at head.inside ∙ ap (λ (x : Option Kind). formula_of x p k at) (head.named ∙ ap Some e)
 
-  -- a quantifier has a range, or there is no formula
-  module _ {all : Bool} (h : kind ≡ Quantifier all) {r : ℕ} (is : r ≡ range_of p at k) where
-    unranged : r ≡ 0 → formula_there p k at ≡ constant false
+  -- a quantifier has a range, and there is place for one more variable, or there is no formula
+  module _ {all : Bool} (h : kind ≡ Quantifier all) where
+    unplaced : 8 ≤ k → formula_there p k at ≡ constant false
     unfolding formula_by
-    unranged z = by_kind h ∙ go (ltb k 8) (is_range byte) refl (sym is ∙ z)
-      where
-        byte : ℕ
-        byte = byte_at p (at + 1)
+    unplaced l = by_kind h ∙ rw (le-ltb k 8 l) refl
 
-        go : (b c : Bool) → is_range byte ≡ c → cond b (cond c byte 0) 0 ≡ 0
-            → cond b (cond c (quantified all byte (formula_there p (k + 1) (at + 2))) (constant false)) (constant false)
-            ≡ constant false
-        go false c e z = refl
-        go true false e z = refl
-        go true true e z = absurd (omega (arith, range_positive byte e, z))
+    module _ (l : k < 8) {r : ℕ} (byte : r ≡ byte_at p (at + 1)) where
+      unranged : is_range r ≡ false → formula_there p k at ≡ constant false
+      unfolding formula_by
+      unranged n = by_kind h ∙ rw (lt-ltb k 8 l, ← byte, n) refl
 
-    ranged : 0 < r → formula_there p k at ≡ quantified all r (formula_there p (k + 1) (at + 2))
-    unfolding formula_by
-    ranged l = by_kind h ∙ rw is (go (ltb k 8) (is_range byte) (rw is at l))
-      where
-        byte : ℕ
-        byte = byte_at p (at + 1)
+      ranged : is_range r ≡ true → formula_there p k at ≡ quantified all r (formula_there p (k + 1) (at + 2))
+      unfolding formula_by
+      ranged i = by_kind h ∙ rw (lt-ltb k 8 l, ← byte, i) refl
 
-        go : (b c : Bool) → 0 < cond b (cond c byte 0) 0
-            → cond b (cond c (quantified all byte (formula_there p (k + 1) (at + 2))) (constant false)) (constant false)
-            ≡ quantified all (cond b (cond c byte 0) 0) (formula_there p (k + 1) (at + 2))
-        go false c z = absurd (omega arith)
-        go true false z = absurd (omega arith)
-        go true true z = refl
+pub gather_none : {p : List ℕ} {at : ℕ} (head : Head p at None) (k : ℕ) (v : List ℕ) {t : Store} → t.found ≤ length t.table + 1
+    → GathersLeft (formula_there p k at) v t t (alone (Decided false))
+unfolding formula_by
+gather_none {p} {at} head k v l = gather_constant v false l
+    (formula_step p k at head.inside ∙ ap (λ (x : Option Kind). formula_of x p k at) head.named)
 
-module _ {p : List ℕ} {at : ℕ} {kind : Kind} (head : Head p at kind) (k : ℕ) (v : List ℕ) {t : Store} where
-  pub gather_none : kind ≡ NoFormula → t.found ≤ length t.table + 1
-      → GathersLeft (formula_there p k at) v t t (left_of (Decided false) 0)
-  unfolding formula_by
-  gather_none h l = gather_constant v false l (by_kind head k h)
-
+module _ {p : List ℕ} {at : ℕ} {kind : Kind} (head : Head p at (Some kind)) (k : ℕ) (v : List ℕ) {t : Store} where
   pub gather_known : {b : Bool} → kind ≡ Constant b → t.found ≤ length t.table + 1
-      → GathersLeft (formula_there p k at) v t t (left_of (Decided b) 0)
+      → GathersLeft (formula_there p k at) v t t (alone (Decided b))
   unfolding formula_by
   gather_known {b} h l = gather_constant v b l (by_kind head k h)
 
   -- a test is never left
   pub gather_compare : {test : Test} → kind ≡ Compare test → t.found ≤ length t.table + 1
       → let a = test_there p at v test in
-      GathersLeft (formula_there p k at) v t t (left_of (Decided a.holds) a.looked)
+      GathersLeft (formula_there p k at) v t t (left_of (Decided a.value) a.looked)
   unfolding simplified instances shape_of formula_by
   gather_compare {test} h l = rw (by_kind head k h) (gather_nothing l refl
       (settled_both (λ (x y : ℕ). decided (test_holds (test_of test) x y)) (settled_term (first_term p at) v)
       (settled_term (second_term p at) v)))
 
   -- an instance is left itself
-  pub gather_instance : {e : Store} {r : Left} → kind ≡ Instance → GathersInstance p at v t e r
+  pub gather_instance : {e : Store} {r : Looked Shape} → kind ≡ Instance → GathersInstance p at v t e r
       → GathersLeft (formula_there p k at) v t e r
   unfolding simplified instances leaves shape_of tree_shape add noted formula_by
   gather_instance h g =
@@ -239,10 +225,10 @@ module _ {p : List ℕ} {at : ℕ} {kind : Kind} (head : Head p at kind) (k : �
       })
 
   -- ---- a join
-  module _ {all : Bool} (h : kind ≡ Join all) {m : Store} {x : Left}
+  module _ {all : Bool} (h : kind ≡ Join all) {m : Store} {x : Looked Shape}
       (first : GathersLeft (formula_there p k (at + 1)) v t m x) where
     -- the first part decides: the second is passed over
-    pub gather_first : decides all x.shape ≡ true → GathersLeft (formula_there p k at) v t m x
+    pub gather_first : decides all x.value ≡ true → GathersLeft (formula_there p k at) v t m x
     unfolding simplified formula_by
     gather_first z =
         let f = formula_there p k (at + 1) in
@@ -255,16 +241,16 @@ module _ {p : List ℕ} {at : ℕ} {kind : Kind} (head : Head p at kind) (k : �
               (decider_is all (simplified f v) it_does) first.settled (simplified g);
         })
 
-    pub gather_join : {e : Store} {y : Left} {next : ℕ} → next ≡ end_at p (at + 1) → t.found ≤ length t.table + 1
+    pub gather_join : {e : Store} {y : Looked Shape} {next : ℕ} → next ≡ end_at p (at + 1) → t.found ≤ length t.table + 1
         → GathersLeft (formula_there p k next) v m e y
         → let whole = joined_parts all x y in
-        GathersLeft (formula_there p k at) v t (back (is_decided whole.shape) t e) whole
+        GathersLeft (formula_there p k at) v t (back (is_decided whole.value) t e) whole
     unfolding simplified formula_by
     gather_join {y = y} {next = next} n l second =
         let f = formula_there p k (at + 1) in
         let g = formula_there p k next in
         rw (by_kind head k h, ← n) (record {
-          within = within_back (is_decided (joined_shape all x.shape y.shape)) l
+          within = within_back (is_decided (joined_shape all x.value y.value)) l
               (within_both first.within second.within);
           takes = taken_back (join_simplified all (simplified f v) (simplified g v))
               (sums_join all _ _ _ _ (sums_itself all (simplified f v)) (sums_itself all (simplified g v)))
@@ -273,31 +259,26 @@ module _ {p : List ℕ} {at : ℕ} {kind : Kind} (head : Head p at kind) (k : �
         })
 
   -- ---- a quantifier
-  module _ {all : Bool} (h : kind ≡ Quantifier all) {r : ℕ} (is : r ≡ range_of p at k) where
-    pub gather_unranged : r ≡ 0 → t.found ≤ length t.table + 1
-        → GathersLeft (formula_there p k at) v t t (left_of (Decided false) 0)
-    gather_unranged z l = gather_constant v false l (unranged head k h is z)
+  module _ {all : Bool} (h : kind ≡ Quantifier all) (few : t.found ≤ length t.table + 1) where
+    pub gather_unplaced : 8 ≤ k → GathersLeft (formula_there p k at) v t t (alone (Decided false))
+    gather_unplaced l = gather_constant v false few (unplaced head k h l)
 
-    pub gather_quantifier : {e : Store} {x : Left} → 0 < r → t.found ≤ length t.table + 1
-        → GathersOver all r (formula_there p (k + 1) (at + 2)) v t e x
-        → GathersLeft (formula_there p k at) v t (back (is_decided x.shape) t e) x
-    unfolding simplified
-    gather_quantifier {x = x} l few g =
-        let f = formula_there p (k + 1) (at + 2) in
-        rw (ranged head k h is l) (record {
-          within = within_back (is_decided x.shape) few g.within;
-          takes = taken_back (simplified (quantified all r f) v) (sums_over all (λ i. at_value (simplified f) i v) 0 r)
-              g.parts;
-          settled = settled_over (joins_decided all) g.settled;
-        })
+    module _ (l : k < 8) {r : ℕ} (byte : r ≡ byte_at p (at + 1)) where
+      pub gather_unranged : is_range r ≡ false → GathersLeft (formula_there p k at) v t t (alone (Decided false))
+      gather_unranged n = gather_constant v false few (unranged head k h l byte n)
 
--- a range is told only where there is place for one more variable
-pub range_place : (p : List ℕ) (at k : ℕ) → 0 < range_of p at k → k < 8
-range_place p at k l = go (ltb k 8) refl l
-  where
-    go : (b : Bool) → ltb k 8 ≡ b → 0 < cond b (cond (is_range (byte_at p (at + 1))) (byte_at p (at + 1)) 0) 0 → k < 8
-    go true e z = ltb-true k 8 e
-    go false e z = absurd (omega arith)
+      pub gather_quantifier : {e : Store} {x : Looked Shape} → is_range r ≡ true
+          → GathersOver all r (formula_there p (k + 1) (at + 2)) v t e x
+          → GathersLeft (formula_there p k at) v t (back (is_decided x.value) t e) x
+      unfolding simplified
+      gather_quantifier {x = x} i g =
+          let f = formula_there p (k + 1) (at + 2) in
+          rw (ranged head k h l byte i) (record {
+            within = within_back (is_decided x.value) few g.within;
+            takes = taken_back (simplified (quantified all r f) v)
+                (sums_over all (λ i. at_value (simplified f) i v) 0 r) g.parts;
+            settled = settled_over (joins_decided all) g.settled;
+          })
 
 -- ---- the values of a quantified variable
 -- what is left where one more variable has the value i, and at the first n of its values
@@ -321,14 +302,8 @@ one_more all v f n =
     {from = n} {to = n + 1} (omega arith) (omega arith) ∙ gist_last all (at_one_value f v n)))
     ∙ together all v f (omega arith)
 
--- the formula at a place with one more variable in reach, which has the value i
-pub with_value : (p : List ℕ) (at k i : ℕ) (v : List ℕ) {j : ℕ} {w : List ℕ} {t e : Store} {x : Left}
-    → (j ≡ k + 1) × (w ≡ v ++ (i ∷ [])) → GathersLeft (formula_there p j at) w t e x
-    → GathersLeft (formula_there p (k + 1) at) (v ++ (i ∷ [])) t e x
-with_value p at k i v h g = rw (h.0, h.1) at g
-
 module _ (all : Bool) (v : List ℕ) {f : Formula} where
-  pub gather_one : {t e : Store} {x : Left} → GathersLeft f (v ++ (0 ∷ [])) t e x → GathersOver all 1 f v t e x
+  pub gather_one : {t e : Store} {x : Looked Shape} → GathersLeft f (v ++ (0 ∷ [])) t e x → GathersOver all 1 f v t e x
   unfolding over
   gather_one g = record {
     within = g.within;
@@ -336,13 +311,9 @@ module _ (all : Bool) (v : List ℕ) {f : Formula} where
     settled = over_one g.settled;
   }
 
-  -- all values are gone through
-  pub gather_all : {n r : ℕ} {t m : Store} {x : Left} → n ≡ r → GathersOver all n f v t m x → GathersOver all r f v t m x
-  gather_all e g = rw e at g
-
-  module _ {n : ℕ} {t m : Store} {x : Left} (l : 0 < n) (first : GathersOver all n f v t m x) where
+  module _ {n : ℕ} {t m : Store} {x : Looked Shape} (l : 0 < n) (first : GathersOver all n f v t m x) where
     -- these decide
-    pub gather_decided : {r : ℕ} → n ≤ r → decides all x.shape ≡ true → GathersOver all r f v t m x
+    pub gather_decided : {r : ℕ} → n ≤ r → decides all x.value ≡ true → GathersOver all r f v t m x
     gather_decided h z =
         let sums = sums_over all (λ i. at_value (simplified f) i v) 0 n in
         let is = decider_is all _ (ap (decides all) (sums.shape ∙ sym first.parts.takes.shaped) ∙ z) in
@@ -353,7 +324,7 @@ module _ (all : Bool) (v : List ℕ) {f : Formula} where
         }
 
     -- the variable was not looked at: as much is left at every value
-    pub gather_copies : {r : ℕ} → n < r → decides all x.shape ≡ false → looks_at x.looked (length v) ≡ false
+    pub gather_copies : {r : ℕ} → n < r → decides all x.value ≡ false → looks_at x.looked (length v) ≡ false
         → GathersOver all r f v t m (joined_parts all x x)
     gather_copies {r} h z none =
         let y = at_one_value f v 0 in
@@ -366,7 +337,7 @@ module _ (all : Bool) (v : List ℕ) {f : Formula} where
         }
 
     -- the next one
-    pub gather_next : {e : Store} {y : Left} → GathersLeft f (v ++ (n ∷ [])) m e y
+    pub gather_next : {e : Store} {y : Looked Shape} → GathersLeft f (v ++ (n ∷ [])) m e y
         → GathersOver all (n + 1) f v t e (joined_parts all x y)
     gather_next second =
         let one = part_alone all (rw first.within.size at second.takes) in

@@ -21,7 +21,8 @@ use Rattle.prepared.specs.Decoded.{equation_at}
 use Rattle.prepared.specs.Prepared.{prepared_part, formula_there}
 use Rattle.instances.specs.Sides.{formula_in, arguments_in}
 use Rattle.gathering.specs.declared.Shape.TheVariants.{Decided}
-use Rattle.gathering.specs.declared.shapes.Left.{Left}
+use Rattle.gathering.specs.declared.Shape.{Shape}
+use Rattle.looked.specs.declared.Looked.{Looked}
 use Rattle.gathering.specs.FoundWords.{add, noted}
 use Rattle.gathering.specs.Filling.{Filled, found_of, found_words}
 use Rattle.gathering.specs.Shapes.{shape_of, gist}
@@ -59,11 +60,11 @@ module _ (bodies : List ℕ) (equations : List Equation) (w : ℕ) {e m n : ℕ}
       }
 
   -- it is gathered from its prepared body's first code on
-  pub side_gathers : {r : ℕ} {body : List ℕ} {scope : Tuple} {t' set set' : List ℕ} {x : Left} → e < 8
+  pub side_gathers : {r : ℕ} {body : List ℕ} {scope : Tuple} {t' set set' : List ℕ} {x : Looked Shape} → e < 8
       → bit_of set ≡ nowhere → body ≡ prepared_part bodies (equation_number w)
       → scope ≡ argument_tuple w (equation_at equations e).k
       → GathersLeft (formula_there body scope.count 0) (items scope) (store t m set) (store t' r set') x
-      → SideGathers bodies equations w (length t) t t' n (record { found = r; reads = set'; shape = x.shape })
+      → SideGathers bodies equations w (length t) t t' n (record { found = r; reads = set'; shape = x.value })
   unfolding formula_in
   side_gathers {r} {body} {scope} {t'} {set} {set'} {x} inside none b s g =
       let k = (equation_at equations e).k in
@@ -73,5 +74,5 @@ module _ (bodies : List ℕ) (equations : List Equation) (w : ℕ) {e m n : ℕ}
       let taken = rw (values, b, count, is, none) at g.takes in
       let f = formula_there (prepared_part bodies (equation_number w)) (min (equation_at equations (equation_number w)).k 4) 0 in
       let told = subst (λ (s : Filled). Takes (length t) (found_words t s) (found_words t' (found_of (length t) r)) nowhere
-      (bit_of set') x.shape (gist (simplified f (arguments_in equations w)))) (capped (length t) n found) taken in
+      (bit_of set') x.value (gist (simplified f (arguments_in equations w)))) (capped (length t) n found) taken in
       record { few = g.within.few; size = g.within.size; told = rw there told }

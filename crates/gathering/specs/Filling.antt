@@ -1,8 +1,8 @@
 -- DEFINITIONS: a lent table that is being filled.
 -- Its first words are those found; what stands behind them says nothing.
 use Rattle.std.specs.Prelude.{ℕ, ◌+◌, ◌≤◌, ◌<◌, min, ◌≡◌, refl, Bool, true, false, List, ltb, length, take}
+use Rattle.std.specs.Prelude.{Option, Some, None}
 use Rattle.std.proofs.Common.{arith, lt-ltb, le-ltb}
-use Rattle.gathering.specs.declared.walk.Added.{Added}
 use Rattle.gathering.specs.FoundWords.{FoundWords, add-one, number_of}
 
 -- how many words of a table are filled, and whether one more was found than there is room
@@ -17,6 +17,15 @@ found_of room n = record { count = min n room; over = ltb room n }
 -- what a table holds that is filled so far
 abbrev pub found_words : List ℕ → Filled → FoundWords
 found_words table s = (take s.count table, s.over)
+
+-- how many words are found after one was added, and its number among them, which is 512 where it has none
+pub record Added : Type 0 where
+  pub found : ℕ
+  pub at : ℕ
+
+abbrev pub added_word : ℕ → Option ℕ → Added
+added_word found (Some at) = record { found = found; at = at }
+added_word found None = record { found = found; at = 512 }
 
 -- the word w is added to the n words found
 pub record Adds (room : ℕ) (entry exit : List ℕ) (n w : ℕ) (r : Added) : Type 0 where

@@ -1,33 +1,26 @@
 -- What the functions that gather the instances left in a right side promise.
 -- All that is left in a formula is gathered, from left to right; of one that is decided nothing is left.
-use Rattle.std.specs.Prelude.{ℕ, ◌+◌, ◌≤◌, ◌≡◌, Bool, true, false, cond, not, List, ltb, length}
+use Rattle.std.specs.Prelude.{ℕ, ◌+◌, ◌≤◌, ◌≡◌, Bool, true, false, not, List, length}
 use Rattle.meaning.specs.Logic.{over}
 use Rattle.meaning.specs.Formulas.{Formula}
-use Rattle.meaning.specs.Ranges.{is_range}
 use Rattle.meaning.specs.Simplification.{decided, simplified}
 use Rattle.truth.specs.Bits.{bit_of, put_in}
+use Rattle.looked.specs.declared.Looked.{Looked}
 use Rattle.looked.specs.Looked.{both, at_value, Settled, SettledOver}
-use Rattle.prepared.specs.Prepared.{byte_at}
 use Rattle.evaluator.specs.Replies.{word_there}
 use Rattle.gathering.specs.declared.Shape.{Shape}
 use Rattle.gathering.specs.declared.Shape.TheVariants.{One}
-use Rattle.gathering.specs.declared.walk.Added.{Added}
-use Rattle.gathering.specs.declared.shapes.Left.{Left}
 use Rattle.gathering.specs.FoundWords.{FoundWords, add, noted}
-use Rattle.gathering.specs.Filling.{found_of, found_words, Adds}
+use Rattle.gathering.specs.Filling.{found_of, found_words, Added, Adds}
 use Rattle.gathering.specs.Shapes.{decides, joined_shape, Gist, gist, joined_gist, no_gist}
 
--- the range of the quantifier whose code stands at a place, with k variables in reach; 0 where there is none
-abbrev pub range_of : List ℕ → ℕ → ℕ → ℕ
-range_of p at k = cond (ltb k 8) (cond (is_range (byte_at p (at + 1))) (byte_at p (at + 1)) 0) 0
-
 -- ---- what is left of a formula, and the variables that were looked at to know it
-abbrev pub left_of : Shape → ℕ → Left
-left_of shape looked = record { shape = shape; looked = looked }
+abbrev pub left_of : Shape → ℕ → Looked Shape
+left_of shape looked = record { value = shape; looked = looked }
 
 -- two parts together
-abbrev pub joined_parts : Bool → Left → Left → Left
-joined_parts all a b = left_of (joined_shape all a.shape b.shape) (both a.looked b.looked)
+abbrev pub joined_parts : Bool → Looked Shape → Looked Shape → Looked Shape
+joined_parts all a b = left_of (joined_shape all a.value b.value) (both a.looked b.looked)
 
 -- ---- gathering
 -- what is filled on the way: the table, of which so many words are found, and the set of the numbers read
@@ -68,24 +61,25 @@ pub record Within (entry exit : Store) : Type 0 where
   pub size : length exit.table ≡ length entry.table
 
 -- the instance whose code stands at a place is added, and its number put into the set
-pub record GathersInstance (p : List ℕ) (at : ℕ) (v : List ℕ) (entry exit : Store) (r : Left) : Type 0 where
+pub record GathersInstance (p : List ℕ) (at : ℕ) (v : List ℕ) (entry exit : Store) (r : Looked Shape)
+    : Type 0 where
   pub one : Added
   pub added : Adds (length entry.table) entry.table exit.table entry.found
-      (word_there p at v).word one
+      (word_there p at v).value one
   pub counted : exit.found ≡ one.found
   pub noted : bit_of exit.reads ≡ put_in (bit_of entry.reads) one.at true
   pub told : r ≡ left_of One (word_there p at v).looked
 
 -- what is left of the formula f, where the variables in reach have the values v; the room is the whole table
-pub record GathersLeft (f : Formula) (v : List ℕ) (entry exit : Store) (r : Left) : Type 0 where
+pub record GathersLeft (f : Formula) (v : List ℕ) (entry exit : Store) (r : Looked Shape) : Type 0 where
   pub within : Within entry exit
-  pub takes : TakesLeft (length entry.table) entry exit r.shape (gist (simplified f v))
+  pub takes : TakesLeft (length entry.table) entry exit r.value (gist (simplified f v))
   pub settled : Settled r.looked v (simplified f)
 
 -- what is left at each of the first n values of one more variable
-pub record GathersOver (all : Bool) (n : ℕ) (f : Formula) (v : List ℕ) (entry exit : Store) (r : Left)
+pub record GathersOver (all : Bool) (n : ℕ) (f : Formula) (v : List ℕ) (entry exit : Store) (r : Looked Shape)
     : Type 0 where
   pub within : Within entry exit
-  pub parts : TakesParts all (length entry.table) entry exit r.shape
+  pub parts : TakesParts all (length entry.table) entry exit r.value
       (over (joined_gist all) (no_gist all) 0 n (λ i. gist (at_value (simplified f) i v)))
   pub settled : SettledOver (decided (not all)) n r.looked v (simplified f)

@@ -14,7 +14,7 @@ use walk::gather;
 
 // What is left of a formula: a constant; one instance; instances joined by `and` alone (true) or by `or`
 // alone (false); or by both.
-#[derive(Clone, Copy)]
+#[derive(Clone, Copy, PartialEq, Eq)]
 pub enum Shape {
     Decided(bool),
     One,
@@ -23,7 +23,8 @@ pub enum Shape {
 }
 
 // What was gathered of a right side: how many words are found then, the numbers of the instances that are
-// left in it, and its shape.
+// left in it, and its shape. Where there is no room for all words, `found` is one more than the room.
+// Kept as that number: the promise `SideGathers` bounds it by the room and reads it so.
 #[derive(Clone, Copy)]
 pub struct Side {
     pub found: usize,
@@ -32,7 +33,7 @@ pub struct Side {
 }
 
 // Adds the instances that are left in the right side of the instance with the word w to the n words found:
-// one more than the table's room, where there is none for all of them.
+// `found` is one more than the table's room, where there is none for all of them.
 pub fn gather_side(
     bodies: &[u8],
     equations: [Equation; 8],
@@ -43,7 +44,7 @@ pub fn gather_side(
     ensures { SideGathers bodies.now equations w (length table.old)
         table.old table.new n result }
 {
-    let mut found = basics::smaller(n, table.len() + 1);
+    let mut found = n.min(table.len() + 1);
     let mut reads = truth::none();
     let e = words::equation_number(w);
     if 8 <= e {
@@ -55,8 +56,7 @@ pub fn gather_side(
     }
     let body = instances::body_of(bodies, w);
     let scope = words::argument_tuple(w, equations[e].k);
-    let left = gather(body, 0, scope, table, &mut reads, &mut found);
-    let shape = left.shape;
+    let shape = gather(body, 0, scope, table, &mut reads, &mut found).value;
     Side {
         found,
         reads,
@@ -70,9 +70,8 @@ pub fn is_plain(shape: Shape, all: bool) -> bool
     ensures { result ≡ is_plain all shape }
 {
     match shape {
-        Shape::Decided(c) => c == all,
+        Shape::Decided(b) | Shape::Plain(b) => b == all,
         Shape::One => true,
-        Shape::Plain(b) => b == all,
         Shape::Mixed => false,
     }
 }

@@ -6,55 +6,39 @@
 ghost use Rattle.std.specs.Prelude.{cond, ◌≡◌, ◌+◌, ◌≤◌, ◌<◌, length};
 ghost use Rattle.formulas.specs.Tuples.{items};
 ghost use Rattle.prepared.specs.Prepared.{formula_there};
-ghost use Rattle.gathering.specs.Gathered.{range_of, store};
+ghost use Rattle.gathering.specs.Gathered.{store};
 ghost use Rattle.gathering.specs.Gathered.{GathersInstance, GathersLeft, GathersOver};
-ghost use Rattle.gathering.specs.Filling.{Adds};
+ghost use Rattle.gathering.specs.Filling.{Adds, added_word};
 ghost use Rattle.gathering.specs.Shapes.{is_decided};
 
 use crate::Shape;
-use crate::shapes::{Left, decides, is_decided, joined, left_of};
+use crate::shapes::{decides, is_decided, joined};
 use formulas::{Kind, Tuple};
+use looked::Looked;
 use prepared::{byte_at, end_at};
 
-// How many words are found after one was added, and its number among them.
-#[derive(Clone, Copy)]
-struct Added {
-    found: usize,
-    at: usize,
-}
-
-// The range of the quantifier whose code stands at a place; 0 where the byte is no range, or where there is
-// no place for one more variable.
-fn range_of(body: &[u8], at: usize, scope: Tuple) -> u8
-    requires { at < 256 }
-    ensures { result ≡ range_of body.now at scope.count }
-{
-    if 8 <= scope.count {
-        return 0;
-    }
-    let r = byte_at(body, at + 1);
-    if formulas::is_range(r) { r } else { 0 }
-}
-
-// Adds a word behind the n found, unless it is there: one more than the table's room is found, where there is
+// Adds a word behind those found, unless it is there: one more than the table's room is found, where there is
 // none for it. Its number is where it stands, or where it would; where nothing more is taken it has none.
-fn add_word(table: &mut [u32], n: usize, w: u32) -> Added
-    requires { n ≤ length table.old + 1 }
-    ensures { Adds (length table.old) table.old table.new n w result }
+// `found` is bounded by the table's length in each contract here: that ties two lent places, which no type of
+// one of them holds, and `SideGathers` promises it in the end.
+fn add_word(table: &mut [u32], found: &mut usize, w: u32) -> Option<usize>
+    requires { found.old ≤ length table.old + 1 }
+    ensures { Adds (length table.old) table.old table.new found.old w
+        (added_word found.new result) }
 {
-    let room = table.len();
-    if room < n {
-        return Added { found: n, at: 512 };
+    let n = *found;
+    if table.len() < n {
+        return None;
     }
     let at = evaluator::lookup(&table[..n], w);
     if at < n {
-        return Added { found: n, at };
+        return Some(at);
     }
-    if room <= n {
-        return Added { found: n + 1, at };
+    *found = n + 1;
+    if n < table.len() {
+        table[n] = w;
     }
-    table[n] = w;
-    Added { found: n + 1, at }
+    Some(at)
 }
 
 // Adds the instance at a place to the words found, and puts its number into the set of those read.
@@ -65,28 +49,30 @@ fn gather_instance(
     table: &mut [u32],
     reads: &mut [u64; 8],
     found: &mut usize,
-) -> Left
+) -> Looked<Shape>
     requires { found.old ≤ length table.old + 1 }
     ensures { GathersInstance body.now at (items scope)
         (store table.old found.old reads.old)
         (store table.new found.new reads.new) result }
 {
     let i = evaluator::word_at(body, at, scope);
-    let n = *found;
-    let a = add_word(table, n, i.word);
-    *found = a.found;
-    truth::mark(reads, a.at);
-    left_of(Shape::One, i.looked)
+    if let Some(number) = add_word(table, found, i.value) {
+        truth::mark(reads, number);
+    }
+    Looked {
+        value: Shape::One,
+        looked: i.looked,
+    }
 }
 
 // Takes back what was added inside a join or a quantifier, where nothing is left of it: the words found are
 // the n found before it, and the numbers read are the set of those read before it. What then stands in the
 // table behind the words found says nothing.
-fn take_back(left: Left, n: usize, set: &[u64; 8], reads: &mut [u64; 8], found: &mut usize)
-    ensures { (found.new ≡ cond (is_decided left.shape) n found.old)
-        × (reads.new ≡ cond (is_decided left.shape) set.now reads.old) }
+fn take_back(shape: Shape, n: usize, set: &[u64; 8], reads: &mut [u64; 8], found: &mut usize)
+    ensures { (found.new ≡ cond (is_decided shape) n found.old)
+        × (reads.new ≡ cond (is_decided shape) set.now reads.old) }
 {
-    if is_decided(left) {
+    if is_decided(shape) {
         *found = n;
         *reads = *set;
     }
@@ -94,6 +80,9 @@ fn take_back(left: Left, n: usize, set: &[u64; 8], reads: &mut [u64; 8], found: 
 
 // Adds the instances that are left in the formula at a place to the words found and their numbers to the set
 // of those read, and tells its shape. The second part of a join is passed over where the first decides.
+// Table, set and number are three places lent, since the table is the caller's: a struct of three `&mut`
+// would be lent on field by field at each call, and would show no more. Body, place and scope are parameters
+// as in the evaluator's `term`: a struct of them would be built anew at each call, as the place changes.
 #[cycle(gather_gather_fold)]
 pub(crate) fn gather(
     body: &[u8],
@@ -102,46 +91,50 @@ pub(crate) fn gather(
     table: &mut [u32],
     reads: &mut [u64; 8],
     found: &mut usize,
-) -> Left
+) -> Looked<Shape>
     requires { found.old ≤ length table.old + 1 }
     ensures { GathersLeft (formula_there body.now scope.count at) (items scope)
         (store table.old found.old reads.old)
         (store table.new found.new reads.new) result }
 {
     if 256 <= at {
-        return left_of(Shape::Decided(false), 0);
+        return Looked::alone(Shape::Decided(false));
     }
     // What to go back to, in one place for a small frame.
     let n = *found;
     let set = *reads;
-    let kind = formulas::kind_of(byte_at(body, at));
+    let Some(kind) = formulas::kind_of(byte_at(body, at)) else {
+        return Looked::alone(Shape::Decided(false));
+    };
     match kind {
-        Kind::NoFormula => left_of(Shape::Decided(false), 0),
-        Kind::Constant(b) => left_of(Shape::Decided(b), 0),
+        Kind::Constant(b) => Looked::alone(Shape::Decided(b)),
         // A test is never open: its value says all.
         Kind::Compare(t) => {
             let a = evaluator::test_at(body, at, scope, t);
-            left_of(Shape::Decided(a.holds), a.looked)
+            Looked {
+                value: Shape::Decided(a.value),
+                looked: a.looked,
+            }
         }
         Kind::Join(all) => {
             let first = gather(body, at + 1, scope, table, reads, found);
             // A first part that decides took back what it added.
-            if decides(all, first) {
+            if decides(all, first.value) {
                 return first;
             }
             // In one place too: the second part, then both.
             let mut part = gather(body, end_at(body, at + 1), scope, table, reads, found);
             part = joined(all, first, part);
-            take_back(part, n, &set, reads, found);
+            take_back(part.value, n, &set, reads, found);
             part
         }
         Kind::Quantifier(all) => {
-            let r = range_of(body, at, scope);
-            if r == 0 {
-                return left_of(Shape::Decided(false), 0);
+            let r = byte_at(body, at + 1);
+            if 8 <= scope.count || !formulas::is_range(r) {
+                return Looked::alone(Shape::Decided(false));
             }
             let part = gather_fold(body, at + 2, scope, all, r, table, reads, found);
-            take_back(part, n, &set, reads, found);
+            take_back(part.value, n, &set, reads, found);
             part
         }
         Kind::Instance => gather_instance(body, at, scope, table, reads, found),
@@ -161,16 +154,15 @@ fn gather_fold(
     table: &mut [u32],
     reads: &mut [u64; 8],
     found: &mut usize,
-) -> Left
+) -> Looked<Shape>
     requires { (found.old ≤ length table.old + 1) × (0 < r) × (scope.count < 8) }
     ensures { GathersOver all r (formula_there body.now (scope.count + 1) at)
         (items scope) (store table.old found.old reads.old)
         (store table.new found.new reads.new) result }
 {
     let mut a = gather(body, at, formulas::push(scope, 0), table, reads, found);
-    let mut i: u8 = 1;
-    while i < r {
-        if decides(all, a) {
+    for i in 1..r {
+        if decides(all, a.value) {
             return a;
         }
         if !looked::looks_at(a.looked, scope.count) {
@@ -178,7 +170,6 @@ fn gather_fold(
         }
         let b = gather(body, at, formulas::push(scope, i), table, reads, found);
         a = joined(all, a, b);
-        i += 1;
     }
     a
 }

@@ -13,8 +13,7 @@ use Rattle.meaning.proofs.Monotone.{holds_rising}
 use Rattle.meaning.specs.Words.{word}
 use Rattle.formulas.specs.declared.Equation.{Equation}
 use Rattle.words.specs.Unpacked.{equation_number}
-use Rattle.evaluator.specs.declared.Value.{Value}
-use Rattle.evaluator.specs.declared.Value.TheVariants.{False, True, Open}
+use Rattle.std.proofs.Common.{Option, Some, None}
 use Rattle.evaluator.specs.Values.{known, index_of, value_in}
 use Rattle.evaluator.proofs.AsTruth.{as_truth, known_truth, truths, valued_truth}
 use Rattle.systems.specs.Numbered.{Truths, Numbered, Proper}
@@ -23,10 +22,10 @@ use Rattle.instances.specs.Sides.{numbered_system}
 
 -- ---- the right sides
 -- a value is true where it is with open taken as false
-true_as : (x : Value) → is_true x ≡ as_truth false x
-true_as False = refl
-true_as True = refl
-true_as Open = refl
+true_as : (x : Option Bool) → is_true x ≡ as_truth false x
+true_as (Some false) = refl
+true_as (Some true) = refl
+true_as None = refl
 
 -- a word is true in a set where it has a number that is in it
 pub word_true : (table : List ℕ) (v : Truths) (w : ℕ)
@@ -34,7 +33,7 @@ pub word_true : (table : List ℕ) (v : Truths) (w : ℕ)
 unfolding value_in
 word_true table v w = go (ltb (index_of table w) (length table)) (v (index_of table w))
   where
-    go : (a b : Bool) → as_truth false (cond a (known b) Open) ≡ (a && b)
+    go : (a b : Bool) → as_truth false (cond a (known b) None) ≡ (a && b)
     go true b = known_truth false b
     go false b = refl
 

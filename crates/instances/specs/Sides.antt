@@ -1,12 +1,11 @@
 -- DEFINITIONS: the right sides of a table of words, and its instances as a numbered system.
 -- A right side is the value of the equation's formula: an instance is as true as its number in the set says.
 use Rattle.std.specs.Prelude.{ℕ, min, Bool, true, false, cond, ◌&&◌, List, eqb, ltb, length, get_or}
+use Rattle.std.specs.Prelude.{Option, Some, None}
 use Rattle.meaning.specs.Formulas.{Formula, constant}
 use Rattle.meaning.specs.WordLaws.{arguments_of}
 use Rattle.formulas.specs.declared.Equation.{Equation}
 use Rattle.words.specs.Unpacked.{equation_number}
-use Rattle.evaluator.specs.declared.Value.{Value}
-use Rattle.evaluator.specs.declared.Value.TheVariants.{False, True, Open}
 use Rattle.evaluator.specs.Values.{valued, value_in}
 use Rattle.prepared.specs.Decoded.{equation_at}
 use Rattle.prepared.specs.Prepared.{prepared_part, formula_there}
@@ -24,14 +23,14 @@ abbrev pub arguments_in : List Equation → ℕ → List ℕ
 arguments_in equations w = arguments_of (equation_at equations (equation_number w)).k w
 
 -- the right side of the instance with the word w
-unfoldable pub side_of : List ℕ → List Equation → List ℕ → Truths → ℕ → Value
+unfoldable pub side_of : List ℕ → List Equation → List ℕ → Truths → ℕ → Option Bool
 side_of bodies equations table v w =
     valued (formula_in bodies equations (equation_number w)) (value_in table v) (arguments_in equations w)
 
-abbrev pub is_true : Value → Bool
-is_true False = false
-is_true True = true
-is_true Open = false
+abbrev pub is_true : Option Bool → Bool
+is_true (Some false) = false
+is_true (Some true) = true
+is_true None = false
 
 -- the right sides of a table's instances in a set
 unfoldable pub sides : List ℕ → List Equation → List ℕ → Truths → Truths

@@ -2,8 +2,7 @@
 -- What reading and finding answer, and what the records hold after reading, checking, finding and solving.
 use Rattle.std.specs.Prelude.{ℕ, cond, List, ◌++◌, map, eqb, ltb, length, take, drop}
 use Rattle.formulas.specs.declared.Equation.{Equation}
-use Rattle.reading.specs.declared.Model.{Model}
-use Rattle.reading.specs.Records.{reading}
+use Rattle.reading.specs.Records.{ModelRecord, reading}
 use Rattle.answers.specs.declared.Answer.{Answer}
 use Rattle.answers.specs.Answers.{checked, solved}
 use Rattle.lending.specs.declared.Record.{Record}
@@ -16,11 +15,11 @@ abbrev pub record_of : Equation → Record
 record_of e = record { sign = e.sign; k = e.k; ranges = e.ranges; place = e.place; length = e.length }
 
 -- a record for each equation, in file order
-unfoldable pub records_of : Model → List Record
+unfoldable pub records_of : ModelRecord → List Record
 records_of model = map record_of (take model.count model.equations)
 
 -- "Records past the equation count stay as they were, and so do all records on any refusal, 9 included"
-unfoldable pub records_after : ℕ → Model → List Record → List Record
+unfoldable pub records_after : ℕ → ModelRecord → List Record → List Record
 records_after number model records =
     cond (eqb number 0) (records_of model ++ drop model.count records) records
 

@@ -1,18 +1,19 @@
-// The operations on a text that are lent records: what is lent, what comes back. Each prepares an answer and
-// the records that go with it, then writes these in one place.
+// The operations on a text that are lent records: what is lent, what comes back. Each prepares a model with
+// its answer or a refusal, then writes the model's records in one place.
 #![tactic(auto)]
 
-ghost use Rattle.std.specs.Prelude.{◌≡◌, map, ◌<◌, ◌≤◌, length, get_or};
-ghost use Rattle.answers.specs.Answers.{refusal};
+ghost use Rattle.std.specs.Prelude.{◌≡◌, ◌<◌, ◌≤◌, length, IfSome};
 ghost use Rattle.engine.specs.Examined.{whole};
 ghost use Rattle.lending.specs.Records.{record_of, read_from, find_from};
 ghost use Rattle.lending.specs.Promises.{Read, Checked, Found, Solved};
-ghost use Rattle.lending.specs.Prepared.{blank, overwritten, prepared};
+ghost use Rattle.lending.specs.Prepared.{filled, model_in, answer_in, read_told, room_judged};
 ghost use Rattle.lending.specs.Prepared.{ReadPrepared, TablePrepared, SolvePrepared};
 
 use answers::Answer;
+use engine::{Examined, Refused};
 use formulas::Equation;
 use reading::Model;
+use refusals::{Reason, Refusal};
 
 // An equation as reading lends it: absent ranges are 1; place is that of the body's first digit in the text,
 // length the body's bytes.
@@ -25,11 +26,37 @@ pub struct Record {
     pub length: usize,
 }
 
+impl From<Equation> for Record {
+    ghost from_gives = { λ e r. r ≡ record_of e };
+
+    fn from(e: Equation) -> Record {
+        let ranges = e.ranges;
+        Record {
+            sign: e.sign,
+            k: e.k,
+            ranges,
+            place: e.place,
+            length: e.length,
+        }
+    }
+}
+
 // The refusal that reading a text gives; both are 0 where it gives none.
 #[derive(Clone, Copy)]
 pub struct ReadAnswer {
     pub number: u8,
     pub line: usize,
+}
+
+impl From<Answer> for ReadAnswer {
+    ghost from_gives = { λ a r. r ≡ read_from a };
+
+    fn from(a: Answer) -> ReadAnswer {
+        ReadAnswer {
+            number: a.number,
+            line: a.line,
+        }
+    }
 }
 
 // The refusal that finding gives, or how many instances are reached; everything else is 0.
@@ -40,21 +67,25 @@ pub struct FindAnswer {
     pub reached: usize,
 }
 
-// An answer, and the first `count` of `records` that are to be written with it.
-#[derive(Clone, Copy)]
-struct Prepared {
-    answer: Answer,
-    count: usize,
-    records: [Record; 8],
+impl From<Answer> for FindAnswer {
+    ghost from_gives = { λ a f. f ≡ find_from a };
+
+    fn from(a: Answer) -> FindAnswer {
+        FindAnswer {
+            number: a.number,
+            line: a.line,
+            reached: a.reached,
+        }
+    }
 }
 
 // Reads a text and fills the lent records.
 pub fn read(text: &[u8], records: &mut [Record]) -> ReadAnswer
     ensures { Read text.now records.old result records.new }
 {
-    let p = prepare_read(text, records.len());
-    fill(records, p);
-    read_answer_of(p)
+    let read = prepare_read(text, records.len());
+    fill(records, read.ok());
+    read_answer_of(read)
 }
 
 // Checks a text: fills the lent records, writes the reached instances into the lent table and answers.
@@ -62,9 +93,9 @@ pub fn check(text: &[u8], records: &mut [Record], table: &mut [u32]) -> Answer
     ensures { Checked text.now records.old table.old result
         records.new table.new }
 {
-    let p = prepare_check(text, records.len(), table);
-    fill(records, p);
-    answer_of(p)
+    let examined = prepare_check(text, records.len(), table);
+    fill(records, model_of(examined));
+    answer_of(examined)
 }
 
 // Finds the reached instances of a text: writes them into the lent table, and fills the lent records.
@@ -72,9 +103,9 @@ pub fn find(text: &[u8], records: &mut [Record], table: &mut [u32]) -> FindAnswe
     ensures { Found text.now records.old table.old result
         records.new table.new }
 {
-    let p = prepare_find(text, records.len(), table);
-    fill(records, p);
-    find_answer_of(p)
+    let examined = prepare_find(text, records.len(), table);
+    fill(records, model_of(examined));
+    FindAnswer::from(answer_of(examined))
 }
 
 // Solves the list that was found, which is not trusted: fills the lent records and answers as `check` does.
@@ -82,166 +113,88 @@ pub fn solve(text: &[u8], records: &mut [Record], list: &[u32]) -> Answer
     ensures { Solved text.now records.old list.now result
         records.new }
 {
-    let p = prepare_solve(text, records.len(), list);
-    fill(records, p);
-    answer_of(p)
+    let examined = prepare_solve(text, records.len(), list);
+    fill(records, model_of(examined));
+    answer_of(examined)
 }
 
-// Writes the records that are prepared: the one place where lent records are written.
-fn fill(records: &mut [Record], p: Prepared)
-    requires { (p.count ≤ 8) × (p.count ≤ length records.old) }
-    ensures { records.new ≡ overwritten p.count p.records records.old }
+// Writes the records of a model, where there is one: the one place where lent records are written.
+fn fill(records: &mut [Record], model: Option<Model>)
+    requires { IfSome model (λ m. (m.count ≤ 8) × (m.count ≤ length records.old)) }
+    ensures { records.new ≡ filled model records.old }
 {
-    let mut i: usize = 0;
-    while i < p.count {
-        records[i] = nth_record(p, i);
-        i = i + 1;
+    let Some(model) = model else {
+        return;
+    };
+    for i in 0..model.count {
+        records[i] = Record::from(model.equations[i]);
     }
 }
 
-fn nth_record(p: Prepared, i: usize) -> Record
-    requires { i < 8 }
-    ensures { result ≡ get_or p.records i blank }
+// On a refusal no record is written, whether or not a model was read.
+fn model_of(examined: Result<Examined, Refused>) -> Option<Model>
+    ensures { result ≡ model_in examined }
 {
-    let records = p.records;
-    records[i]
+    Some(examined.ok()?.model)
 }
 
-fn answer_of(p: Prepared) -> Answer
-    ensures { result ≡ p.answer }
+fn answer_of(examined: Result<Examined, Refused>) -> Answer
+    ensures { result ≡ answer_in examined }
 {
-    p.answer
-}
-
-fn read_answer_of(p: Prepared) -> ReadAnswer
-    ensures { result ≡ read_from p.answer }
-{
-    let a = p.answer;
-    ReadAnswer {
-        number: a.number,
-        line: a.line,
+    match examined {
+        Ok(e) => e.answer,
+        Err(r) => Answer::from(r.refusal),
     }
 }
 
-fn find_answer_of(p: Prepared) -> FindAnswer
-    ensures { result ≡ find_from p.answer }
+fn read_answer_of(read: Result<Model, Refusal>) -> ReadAnswer
+    ensures { result ≡ read_told read }
 {
-    let a = p.answer;
-    FindAnswer {
-        number: a.number,
-        line: a.line,
-        reached: a.reached,
+    match read {
+        Ok(_) => ReadAnswer { number: 0, line: 0 },
+        Err(refusal) => ReadAnswer::from(Answer::from(refusal)),
     }
 }
 
-// Judges the length of the lent list first, then reads.
-fn prepare_read(text: &[u8], room: usize) -> Prepared
-    ensures { ReadPrepared text.now room result }
+// The length of the lent list is judged before anything is read.
+fn judge_room(room: usize) -> Result<(), Refusal>
+    ensures { result ≡ room_judged room }
 {
     if room < 8 {
-        return refuse_short_list();
+        return Err(Refusal::from(Reason::WrongHead));
     }
-    let r = reading::read_model(text);
-    prepare(answers::refuse(r.number, r.line), r.model)
+    Ok(())
 }
 
-// Judges the length of the lent list first, then examines the text; the table is touched only there.
-fn prepare_check(text: &[u8], room: usize, table: &mut [u32]) -> Prepared
+fn prepare_read(text: &[u8], room: usize) -> Result<Model, Refusal>
+    ensures { ReadPrepared text.now room result }
+{
+    judge_room(room)?;
+    let read = reading::read_model(text)?;
+    let model = read.model;
+    Ok(model)
+}
+
+// The table is touched only where the text is examined.
+fn prepare_check(text: &[u8], room: usize, table: &mut [u32]) -> Result<Examined, Refused>
     ensures { TablePrepared whole text.now room table.old result
         table.new }
 {
-    if room < 8 {
-        return refuse_short_list();
-    }
-    let e = engine::examine(text, table);
-    prepare(e.answer, e.model)
+    judge_room(room)?;
+    engine::examine(text, table)
 }
 
-// The same for finding.
-fn prepare_find(text: &[u8], room: usize, table: &mut [u32]) -> Prepared
+fn prepare_find(text: &[u8], room: usize, table: &mut [u32]) -> Result<Examined, Refused>
     ensures { TablePrepared find_from text.now room table.old result
         table.new }
 {
-    if room < 8 {
-        return refuse_short_list();
-    }
-    let e = engine::find(text, table);
-    prepare(e.answer, e.model)
+    judge_room(room)?;
+    engine::find(text, table)
 }
 
-// And for solving a list.
-fn prepare_solve(text: &[u8], room: usize, list: &[u32]) -> Prepared
+fn prepare_solve(text: &[u8], room: usize, list: &[u32]) -> Result<Examined, Refused>
     ensures { SolvePrepared text.now room list.now result }
 {
-    if room < 8 {
-        return refuse_short_list();
-    }
-    let e = engine::solve(text, list);
-    prepare(e.answer, e.model)
-}
-
-// On a refusal no record is to be written.
-fn prepare(answer: Answer, model: Model) -> Prepared
-    ensures { result ≡ prepared answer model }
-{
-    let equations = model.equations;
-    let records = records_of(equations);
-    let mut count = model.count;
-    if answer.number != 0 {
-        count = 0;
-    }
-    Prepared {
-        answer,
-        count,
-        records,
-    }
-}
-
-fn refuse_short_list() -> Prepared
-    ensures { (result.answer ≡ refusal 5 0) × (result.count ≡ 0) }
-{
-    let none = no_record();
-    let answer = answers::refuse(5, 0);
-    Prepared {
-        answer,
-        count: 0,
-        records: [none; 8],
-    }
-}
-
-fn records_of(equations: [Equation; 8]) -> [Record; 8]
-    ensures { result ≡ map record_of equations }
-{
-    let none = no_record();
-    let mut records = [none; 8];
-    let mut i: usize = 0;
-    while i < 8 {
-        let r = record_of(equations[i]);
-        records[i] = r;
-        i += 1;
-    }
-    records
-}
-
-fn record_of(e: Equation) -> Record
-    ensures { result ≡ record_of e }
-{
-    let ranges = e.ranges;
-    Record {
-        sign: e.sign,
-        k: e.k,
-        ranges,
-        place: e.place,
-        length: e.length,
-    }
-}
-
-fn no_record() -> Record {
-    Record {
-        sign: 0,
-        k: 0,
-        ranges: [0; 4],
-        place: 0,
-        length: 0,
-    }
+    judge_room(room)?;
+    engine::solve(text, list)
 }

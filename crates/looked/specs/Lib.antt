@@ -1,2 +1,3 @@
 pub mod Looked
+pub mod Alone
 pub mod OneReply

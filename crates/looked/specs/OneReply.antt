@@ -2,7 +2,12 @@
 -- Each contract is an equation of the result.
 use Rattle.std.specs.Prelude.{ℕ, ◌≡◌, Bool}
 use Rattle.meaning.specs.OneReply.{one_reply}
+use Rattle.looked.specs.declared.Looked.{Looked}
 use Rattle.looked.specs.Looked.{only, both, looks_at}
+use Rattle.looked.specs.Alone.{alone}
+
+pub one_alone : {T : Type 0} (value : T) {r s : Looked T} → r ≡ alone value → s ≡ alone value → r ≡ s
+one_alone value = one_reply
 
 pub one_only : (i : ℕ) {r s : ℕ} → r ≡ only i → s ≡ only i → r ≡ s
 one_only i = one_reply

@@ -4,6 +4,23 @@
 
 ghost use Rattle.std.specs.Prelude.{◌≡◌};
 ghost use Rattle.looked.specs.Looked.{only, both, looks_at};
+ghost use Rattle.looked.specs.Alone.{alone};
+
+// A value, and the variables that were looked at for it.
+#[derive(Clone, Copy)]
+pub struct Looked<T> {
+    pub value: T,
+    pub looked: u8,
+}
+
+impl<T> Looked<T> {
+    // A value for which no variable was looked at.
+    pub fn alone(value: T) -> Looked<T>
+        ensures { result ≡ alone value }
+    {
+        Looked { value, looked: 0 }
+    }
+}
 
 // Variable i alone.
 pub fn only(i: u8) -> u8

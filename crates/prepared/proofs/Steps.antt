@@ -5,15 +5,16 @@ use native.Mathlib.Omega.{arith}
 use mathlib.Core.Path.{◌≡◌, refl, sym, ap, ap₂, ◌∙◌}
 use mathlib.Core.Bool.{Bool, true, false, cond}
 use mathlib.Core.List.{List, ◌∷◌}
+use Rattle.std.specs.Prelude.{Option, None, Some}
 use lib.Dec.{ltb}
 use lib.ListN.{get_or}
 use borrow.Author.Tests.{le-ltb}
 use Rattle.meaning.specs.Formulas.{Term, number, calculated, Formula, constant, joined, quantified, compared, instance}
 use Rattle.meaning.specs.Ranges.{is_range}
 use Rattle.formulas.specs.declared.Kind.{Kind}
-use Rattle.formulas.specs.declared.Kind.TheVariants.{NoFormula, Constant, Join, Quantifier, Compare, Instance}
+use Rattle.formulas.specs.declared.Kind.TheVariants.{Constant, Join, Quantifier, Compare, Instance}
 use Rattle.formulas.specs.declared.TermKind.{TermKind}
-use Rattle.formulas.specs.declared.TermKind.TheVariants.{NoTerm, Number, Variable, Calculation}
+use Rattle.formulas.specs.declared.TermKind.TheVariants.{Number, Variable, Calculation}
 use Rattle.formulas.specs.Codes.{kind_of, term_kind_of}
 use Rattle.formulas.specs.Decode.{test_of}
 use Rattle.formulas.proofs.Shapes.{no_kind, no_term_kind}
@@ -39,13 +40,13 @@ module _ (p : List ℕ) where
   abbrev Same : {A : Type 0} → ℕ → (one two : ℕ → A) → Type 0
   Same at one two = (i : ℕ) → at ≤ i → one i ≡ two i
 
-  term_same : (kind : TermKind) (at : ℕ) (one two : ℕ → Term) → Same (at + 1) one two
+  term_same : (kind : Option TermKind) (at : ℕ) (one two : ℕ → Term) → Same (at + 1) one two
       → term_by one kind p at ≡ term_by two kind p at
   unfolding term_by
-  term_same NoTerm at one two h = refl
-  term_same Number at one two h = refl
-  term_same Variable at one two h = refl
-  term_same (Calculation plus) at one two h =
+  term_same None at one two h = refl
+  term_same (Some Number) at one two h = refl
+  term_same (Some Variable) at one two h = refl
+  term_same (Some (Calculation plus)) at one two h =
       let r = byte_at p (at + 1) in
       ap₂ (λ (a b : Term). cond (is_range r) (calculated plus r a b) (number 0))
       (h (at + 2) (omega arith)) (h (end_at p (at + 2)) (omega (arith, end_on (at + 2))))
@@ -57,20 +58,20 @@ module _ (p : List ℕ) where
       ap₂ (λ (t : Term) (ts : List Term). t ∷ ts) (h at (omega arith))
       (terms_same c (end_at p at) one two (λ i l. h i (omega (arith, end_on at))))
 
-  formula_same : (kind : Kind) (k at : ℕ) (one two : ℕ → Term) (f g : ℕ → ℕ → Formula) → Same (at + 1) one two
+  formula_same : (kind : Option Kind) (k at : ℕ) (one two : ℕ → Term) (f g : ℕ → ℕ → Formula) → Same (at + 1) one two
       → ((j : ℕ) → Same (at + 1) (f j) (g j)) → formula_by one f kind p k at ≡ formula_by two g kind p k at
   unfolding formula_by
-  formula_same NoFormula k at one two f g h e = refl
-  formula_same (Constant b) k at one two f g h e = refl
-  formula_same (Join all) k at one two f g h e =
+  formula_same None k at one two f g h e = refl
+  formula_same (Some (Constant b)) k at one two f g h e = refl
+  formula_same (Some (Join all)) k at one two f g h e =
       ap₂ (joined all) (e k (at + 1) (omega arith)) (e k (end_at p (at + 1)) (end_on (at + 1)))
-  formula_same (Quantifier all) k at one two f g h e =
+  formula_same (Some (Quantifier all)) k at one two f g h e =
       let r = byte_at p (at + 1) in
       ap (λ (x : Formula). cond (ltb k 8) (cond (is_range r) (quantified all r x) (constant false)) (constant false))
       (e (k + 1) (at + 2) (omega arith))
-  formula_same (Compare t) k at one two f g h e =
+  formula_same (Some (Compare t)) k at one two f g h e =
       ap₂ (compared (test_of t)) (h (at + 1) (omega arith)) (h (end_at p (at + 1)) (end_on (at + 1)))
-  formula_same Instance k at one two f g h e =
+  formula_same (Some Instance) k at one two f g h e =
       ap (instance (byte_at p (at + 1))) (terms_same (min (byte_at p (at + 2)) 4) (at + 3) one two (λ i l. h i (omega arith)))
 
   -- ---- deep enough is deep enough

@@ -2,15 +2,15 @@
 -- It has the body's bytes, 256 at most, and from 256 on for each of their places how many bytes come after
 -- the first of the formula or term that begins there: so any part can be passed over at once.
 use Rattle.std.specs.Prelude.{ℕ, zero, suc, ◌+◌, ◌-◌, ◌*◌, min, false, cond, List, [], ◌∷◌, ltb, take, drop}
-use Rattle.std.specs.Prelude.{get_or}
+use Rattle.std.specs.Prelude.{get_or, Option, None, Some}
 use Rattle.meaning.specs.Formulas.{Term, number, variable, calculated, Formula, constant, joined, quantified}
 use Rattle.meaning.specs.Formulas.{compared, instance}
 use Rattle.meaning.specs.Ranges.{is_range}
 use Rattle.formulas.specs.declared.Kind.{Kind}
-use Rattle.formulas.specs.declared.Kind.TheVariants.{NoFormula, Constant, Join, Quantifier, Compare}
+use Rattle.formulas.specs.declared.Kind.TheVariants.{Constant, Join, Quantifier, Compare}
 use Rattle.formulas.specs.declared.Kind.TheVariants.{Instance}
 use Rattle.formulas.specs.declared.TermKind.{TermKind}
-use Rattle.formulas.specs.declared.TermKind.TheVariants.{NoTerm, Number, Variable, Calculation}
+use Rattle.formulas.specs.declared.TermKind.TheVariants.{Number, Variable, Calculation}
 use Rattle.formulas.specs.Codes.{kind_of, term_kind_of}
 use Rattle.formulas.specs.Decode.{test_of}
 
@@ -28,11 +28,11 @@ end_at p i = cond (ltb i 256) (i + 1 + get_or p (256 + i) 0) i
 
 -- ---- the term of a kind, whose code stands at a place; `sub` gives the terms inside. Where none can be read
 -- it is the number 0
-unfoldable pub term_by : (ℕ → Term) → TermKind → List ℕ → ℕ → Term
-term_by sub NoTerm p at = number 0
-term_by sub Number p at = number (byte_at p (at + 1))
-term_by sub Variable p at = variable (byte_at p (at + 1))
-term_by sub (Calculation plus) p at =
+unfoldable pub term_by : (ℕ → Term) → Option TermKind → List ℕ → ℕ → Term
+term_by sub None p at = number 0
+term_by sub (Some Number) p at = number (byte_at p (at + 1))
+term_by sub (Some Variable) p at = variable (byte_at p (at + 1))
+term_by sub (Some (Calculation plus)) p at =
     cond (is_range (byte_at p (at + 1)))
     (calculated plus (byte_at p (at + 1)) (sub (at + 2)) (sub (end_at p (at + 2))))
     (number 0)
@@ -49,18 +49,19 @@ terms_by one p (suc c) at = one at ∷ terms_by one p c (end_at p at)
 
 -- ---- the formula of a kind, whose code stands at a place, with k variables in reach, eight at most; `sub`
 -- gives the formulas inside and `term` the terms. Where none can be read it is false
-unfoldable pub formula_by : (ℕ → Term) → (ℕ → ℕ → Formula) → Kind → List ℕ → ℕ → ℕ → Formula
-formula_by term sub NoFormula p k at = constant false
-formula_by term sub (Constant b) p k at = constant b
-formula_by term sub (Join all) p k at = joined all (sub k (at + 1)) (sub k (end_at p (at + 1)))
-formula_by term sub (Quantifier all) p k at =
+unfoldable pub formula_by : (ℕ → Term) → (ℕ → ℕ → Formula) → Option Kind → List ℕ → ℕ → ℕ → Formula
+formula_by term sub None p k at = constant false
+formula_by term sub (Some (Constant b)) p k at = constant b
+formula_by term sub (Some (Join all)) p k at = joined all (sub k (at + 1)) (sub k (end_at p (at + 1)))
+formula_by term sub (Some (Quantifier all)) p k at =
     cond (ltb k 8)
     (cond (is_range (byte_at p (at + 1)))
     (quantified all (byte_at p (at + 1)) (sub (k + 1) (at + 2)))
     (constant false))
     (constant false)
-formula_by term sub (Compare t) p k at = compared (test_of t) (term (at + 1)) (term (end_at p (at + 1)))
-formula_by term sub Instance p k at =
+formula_by term sub (Some (Compare t)) p k at =
+    compared (test_of t) (term (at + 1)) (term (end_at p (at + 1)))
+formula_by term sub (Some Instance) p k at =
     instance (byte_at p (at + 1)) (terms_by term p (min (byte_at p (at + 2)) 4) (at + 3))
 
 unfoldable pub formula_from : ℕ → List ℕ → ℕ → ℕ → Formula

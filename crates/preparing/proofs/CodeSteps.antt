@@ -6,15 +6,16 @@ use native.Mathlib.Omega.{arith}
 use mathlib.Core.Path.{◌≡◌, refl}
 use mathlib.Core.Bool.{Bool, true, false, cond, ◌&&◌}
 use mathlib.Core.List.{List, [], ◌∷◌}
+use Rattle.std.specs.Prelude.{Option, None, Some}
 use lib.Dec.{T, eqb, eqb→eq, ltb, leb}
 use lib.ListN.{get_or}
 use mir.Facts.{and_yes}
 use borrow.Author.Tests.{leb-true}
 use Rattle.meaning.specs.Logic.{cases}
 use Rattle.formulas.specs.declared.Kind.{Kind}
-use Rattle.formulas.specs.declared.Kind.TheVariants.{NoFormula, Constant, Join, Quantifier, Compare, Instance}
+use Rattle.formulas.specs.declared.Kind.TheVariants.{Constant, Join, Quantifier, Compare, Instance}
 use Rattle.formulas.specs.declared.TermKind.{TermKind}
-use Rattle.formulas.specs.declared.TermKind.TheVariants.{NoTerm, Number, Variable, Calculation}
+use Rattle.formulas.specs.declared.TermKind.TheVariants.{Number, Variable, Calculation}
 use Rattle.formulas.specs.Codes.{Row, rows, no_row, row_of, kind_of, term_kind_of}
 use Rattle.preparing.specs.Ends.{parts_of, width_of}
 
@@ -22,19 +23,19 @@ use Rattle.preparing.specs.Ends.{parts_of, width_of}
 abbrev pub steps : ℕ → ℕ → ℕ → ℕ → Bool
 steps code n parts width = eqb (parts_of code n) parts && eqb (width_of code) width
 
-abbrev formula_steps : Kind → ℕ → ℕ → Bool
-formula_steps NoFormula code n = true
-formula_steps (Constant b) code n = steps code n 0 1
-formula_steps (Join all) code n = steps code n 2 1
-formula_steps (Quantifier all) code n = steps code n 1 2
-formula_steps (Compare t) code n = steps code n 2 1
-formula_steps Instance code n = eqb code 0x1a
+abbrev formula_steps : Option Kind → ℕ → ℕ → Bool
+formula_steps None code n = true
+formula_steps (Some (Constant b)) code n = steps code n 0 1
+formula_steps (Some (Join all)) code n = steps code n 2 1
+formula_steps (Some (Quantifier all)) code n = steps code n 1 2
+formula_steps (Some (Compare t)) code n = steps code n 2 1
+formula_steps (Some Instance) code n = eqb code 0x1a
 
-abbrev term_steps : TermKind → ℕ → ℕ → Bool
-term_steps NoTerm code n = true
-term_steps Number code n = steps code n 0 2
-term_steps Variable code n = steps code n 0 2
-term_steps (Calculation plus) code n = steps code n 2 2
+abbrev term_steps : Option TermKind → ℕ → ℕ → Bool
+term_steps None code n = true
+term_steps (Some Number) code n = steps code n 0 2
+term_steps (Some Variable) code n = steps code n 0 2
+term_steps (Some (Calculation plus)) code n = steps code n 2 2
 
 abbrev row_steps : ℕ → ℕ → Row → Bool
 row_steps n code r = formula_steps r.formula code n && term_steps r.term code n
@@ -85,10 +86,10 @@ module _ (s : List ℕ) (at : ℕ) where
   row_at : T (formula_steps (kind_of here) here far) × T (term_steps (term_kind_of here) here far)
   row_at = and_yes (formula_steps (kind_of here) here far) (term_steps (term_kind_of here) here far) (code_steps far here)
 
-  pub formula_row : {kind : Kind} → kind_of here ≡ kind → T (formula_steps kind here far)
+  pub formula_row : {kind : Option Kind} → kind_of here ≡ kind → T (formula_steps kind here far)
   formula_row h = rw h at row_at.0
 
-  pub term_row : {kind : TermKind} → term_kind_of here ≡ kind → T (term_steps kind here far)
+  pub term_row : {kind : Option TermKind} → term_kind_of here ≡ kind → T (term_steps kind here far)
   term_row h = rw h at row_at.1
 
   pub instance_begins : T (eqb here 0x1a) → far ≤ 4 → Begins s at far 3

@@ -10,10 +10,11 @@ use borrow.Author.Tests.{lt-ltb, ltb-true, leb-true, leb-false}
 use Rattle.meaning.specs.Logic.{cases}
 use Rattle.meaning.specs.Formulas.{Term, number, variable, calculated, Formula, joined, quantified, compared, instance}
 use Rattle.meaning.specs.Ranges.{is_range}
+use Rattle.std.specs.Prelude.{Option, None, Some}
 use Rattle.formulas.specs.declared.Kind.{Kind}
-use Rattle.formulas.specs.declared.Kind.TheVariants.{NoFormula, Constant, Join, Quantifier, Compare, Instance}
+use Rattle.formulas.specs.declared.Kind.TheVariants.{Constant, Join, Quantifier, Compare, Instance}
 use Rattle.formulas.specs.declared.TermKind.{TermKind}
-use Rattle.formulas.specs.declared.TermKind.TheVariants.{NoTerm, Number, Variable, Calculation}
+use Rattle.formulas.specs.declared.TermKind.TheVariants.{Number, Variable, Calculation}
 use Rattle.formulas.specs.Codes.{kind_of, term_kind_of}
 use Rattle.formulas.specs.Decode.{some, in_row, nth_term, test_of, term_at, terms_at, formula_at}
 use Rattle.formulas.proofs.Shapes.{no_kind, no_term_kind, shape_no_term, shape_number, shape_variable, shape_calculation}
@@ -64,7 +65,8 @@ module _ {s p : List ℕ} (m : Marked s p 0) (short : length s ≤ 256) where
     }))
 
     module _ (at : ℕ) (inside : at < length s) where
-      term_is : {kind : TermKind} → term_kind_of (get_or s at 0) ≡ kind → term_there p at ≡ term_by (term_there p) kind p at
+      term_is : {kind : Option TermKind} → term_kind_of (get_or s at 0) ≡ kind
+          → term_there p at ≡ term_by (term_there p) kind p at
       term_is h = term_step p at (omega arith) ∙ rw (m.bytes at, h) refl
 
       -- a code with one byte behind it, and no parts
@@ -76,16 +78,17 @@ module _ {s p : List ℕ} (m : Marked s p 0) (short : length s ≤ 256) where
         same = λ _. h;
       })
 
-      term_by_kind : (kind : TermKind) → term_kind_of (get_or s at 0) ≡ kind → Every (TermStands at) (term_at (suc n) s k at)
+      term_by_kind : (kind : Option TermKind) → term_kind_of (get_or s at 0) ≡ kind
+          → Every (TermStands at) (term_at (suc n) s k at)
       unfolding term_by terms_by
-      term_by_kind NoTerm h = rw (shape_no_term n s k at h) unread
-      term_by_kind Number h =
+      term_by_kind None h = rw (shape_no_term n s k at h) unread
+      term_by_kind (Some Number) h =
           rw (shape_number n s k at h) (every_when (leb (get_or s (at + 1) 0) 15) (λ _.
           leaf_stands (term_row s at h) (term_is h ∙ ap number (m.bytes (at + 1)))))
-      term_by_kind Variable h =
+      term_by_kind (Some Variable) h =
           rw (shape_variable n s k at h) (every_when (ltb (get_or s (at + 1) 0) k) (λ _.
           leaf_stands (term_row s at h) (term_is h ∙ ap variable (m.bytes (at + 1)))))
-      term_by_kind (Calculation plus) h =
+      term_by_kind (Some (Calculation plus)) h =
           rw (shape_calculation n s k at plus h) (every_when (is_range (get_or s (at + 1) 0)) (λ b.
           every_last _ (row_stands 2 (at + 2)) (λ ts e r. record {
             on = omega (arith, r.on);
@@ -99,7 +102,7 @@ module _ {s p : List ℕ} (m : Marked s p 0) (short : length s ≤ 256) where
   term_stands k zero at = unread
   term_stands k (suc n) at =
       cases (leb (length s) at)
-      (λ l. let none : term_kind_of (get_or s at 0) ≡ NoTerm =
+      (λ l. let none : term_kind_of (get_or s at 0) ≡ None =
       rw (get_or-eq_default s 0 {n = at} (leb-true (length s) at l)) no_term_kind in
       rw (shape_no_term n s k at none) unread)
       (λ l. term_by_kind k n (term_stands k n) at (leb-false (length s) at l) (term_kind_of (get_or s at 0)) refl)
@@ -107,19 +110,20 @@ module _ {s p : List ℕ} (m : Marked s p 0) (short : length s ≤ 256) where
   -- ---- formulas: with k variables in reach and q quantifiers around
   module _ (n : ℕ) (sub : (k q at : ℕ) → k ≤ 4 + q → Every (FormulaStands k at) (formula_at n s k q at))
       (k q at : ℕ) (reach : k ≤ 4 + q) (inside : at < length s) where
-    formula_is : {kind : Kind} → kind_of (get_or s at 0) ≡ kind
+    formula_is : {kind : Option Kind} → kind_of (get_or s at 0) ≡ kind
         → formula_there p k at ≡ formula_by (term_there p) (formula_there p) kind p k at
     formula_is h = formula_step p k at (omega arith) ∙ rw (m.bytes at, h) refl
 
-    formula_by_kind : (kind : Kind) → kind_of (get_or s at 0) ≡ kind → Every (FormulaStands k at) (formula_at (suc n) s k q at)
+    formula_by_kind : (kind : Option Kind) → kind_of (get_or s at 0) ≡ kind
+        → Every (FormulaStands k at) (formula_at (suc n) s k q at)
     unfolding formula_by terms_by after
-    formula_by_kind NoFormula h = rw (shape_no_formula n s k q at h) unread
-    formula_by_kind (Constant b) h = rw (shape_constant n s k q at b h) (each {e = at + 1} (record {
+    formula_by_kind None h = rw (shape_no_formula n s k q at h) unread
+    formula_by_kind (Some (Constant b)) h = rw (shape_constant n s k q at b h) (each {e = at + 1} (record {
       on = omega arith;
       ended = leaf_end inside (begins s at 0 1 (formula_row s at h));
       same = λ _. formula_is h;
     }))
-    formula_by_kind (Join all) h =
+    formula_by_kind (Some (Join all)) h =
         rw (shape_join n s k q at all h) (every_then _ (sub k q (at + 1) reach) (λ f i x. every_last _ (sub k q i reach) (λ g e y.
         let within : e ≤ 256 → i ≤ 256 = λ few. omega (arith, y.on) in
         record {
@@ -129,7 +133,7 @@ module _ {s p : List ℕ} (m : Marked s p 0) (short : length s ≤ 256) where
           same = λ few. formula_is h ∙ ap₂ (joined all) (x.same (within few))
               (ap (formula_there p k) (x.ended (within few)) ∙ y.same few);
         })))
-    formula_by_kind (Quantifier all) h =
+    formula_by_kind (Some (Quantifier all)) h =
         rw (shape_quantifier n s k q at all h) (every_when (ltb q 4) (λ d. every_when (is_range (get_or s (at + 1) 0)) (λ b.
         every_last _ (sub (k + 1) (q + 1) (at + 2) (omega arith)) (λ f e x. record {
           on = omega (arith, x.on);
@@ -137,14 +141,14 @@ module _ {s p : List ℕ} (m : Marked s p 0) (short : length s ≤ 256) where
           same = λ few. formula_is h ∙ rw (lt-ltb k 8 (omega (arith, ltb-true q 4 d)), m.bytes (at + 1), b)
               (ap (quantified all (get_or s (at + 1) 0)) (x.same few));
         }))))
-    formula_by_kind (Compare t) h =
+    formula_by_kind (Some (Compare t)) h =
         rw (shape_compare n s k q at t h) (every_last _ (row_stands k n (term_stands k n) 2 (at + 1)) (λ ts e r. record {
           on = r.on;
           ended = λ few. end_is inside (begins s at 2 1 (formula_row s at h)) (r.ended few) few;
           same = λ few. formula_is h
               ∙ ap (λ (l : List Term). compared (test_of t) (nth_term l 0) (nth_term l 1)) (r.same few);
         }))
-    formula_by_kind Instance h =
+    formula_by_kind (Some Instance) h =
         let x : at + 1 + 1 ≡ at + 2 = omega arith in
         let y : at + 1 + 2 ≡ at + 3 = omega arith in
         let c = get_or s (at + 2) 0 in
@@ -163,7 +167,7 @@ module _ {s p : List ℕ} (m : Marked s p 0) (short : length s ≤ 256) where
   formula_stands zero k q at reach = unread
   formula_stands (suc n) k q at reach =
       cases (leb (length s) at)
-      (λ l. let none : kind_of (get_or s at 0) ≡ NoFormula =
+      (λ l. let none : kind_of (get_or s at 0) ≡ None =
       rw (get_or-eq_default s 0 {n = at} (leb-true (length s) at l)) no_kind in
       rw (shape_no_formula n s k q at none) unread)
       (λ l. formula_by_kind n (formula_stands n) k q at reach (leb-false (length s) at l) (kind_of (get_or s at 0)) refl)

@@ -7,12 +7,13 @@ ghost use Rattle.preparing.specs.Ends.{parts_of, width_of};
 pub(crate) fn parts_of(code: u8, n: u8) -> usize
     ensures { result ≡ parts_of code n }
 {
+    // An arm for each code: of or-patterns a proof has only Rattle's own names, and it didn't close.
     match code {
         0x10 => 0,
         0x11 => 0,
         0x14 => 1,
         0x15 => 1,
-        0x1a => basics::smaller(basics::wide(n), 4),
+        0x1a => usize::from(n).min(4),
         0x20 => 0,
         0x21 => 0,
         _ => 2,

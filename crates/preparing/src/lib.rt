@@ -4,7 +4,7 @@
 
 mod codes;
 
-ghost use Rattle.std.specs.Prelude.{◌+◌, ◌≤◌, ◌<◌, ◌≡◌, ◌++◌, length, drop};
+ghost use Rattle.std.specs.Prelude.{◌+◌, ◌≤◌, ◌<◌, ◌≡◌, length};
 ghost use Rattle.prepared.specs.Decoded.{body_part};
 ghost use Rattle.preparing.specs.Promise.{Prepares};
 ghost use Rattle.preparing.specs.Ends.{after, Clear, Cut, Marked};
@@ -17,15 +17,14 @@ fn after(body: &[u8], parts: usize, from: usize) -> usize
     ensures { result ≡ after body.now parts from }
 {
     let mut end = from;
-    let mut left = parts;
-    while 0 < left {
+    for _ in 0..parts {
         end = prepared::end_at(body, end);
-        left -= 1;
     }
     end
 }
 
 // Writes where the formula or term at a place ends; of all later places that stands there.
+// That a body has at most 256 bytes stands in three contracts: the type of a slice can't say so.
 fn mark(body: &[u8], out: &mut [u8], at: usize)
     requires { (at < length body.now) × (length body.now ≤ 256) ×
         Marked body.now out.old (at + 1) }
@@ -34,7 +33,7 @@ fn mark(body: &[u8], out: &mut [u8], at: usize)
     let code = basics::element(body, at);
     let parts = parts_of(code, basics::element(body, at + 2));
     let end = after(out, parts, at + width_of(code));
-    let next = basics::smaller(end, 256);
+    let next = end.min(256);
     out[256 + at] = (next - at - 1) as u8;
 }
 
@@ -43,32 +42,17 @@ fn mark_all(body: &[u8], out: &mut [u8])
     requires { (length body.now ≤ 256) × Marked body.now out.old (length body.now) }
     ensures { Marked body.now out.new 0 }
 {
-    let mut at = body.len();
-    while 0 < at {
-        at -= 1;
+    for at in (0..body.len()).rev() {
         mark(body, out, at);
     }
 }
 
-// The bytes of a body are written.
-fn copy_body(body: &[u8], out: &mut [u8])
-    requires { length body.now ≤ length out.old }
-    ensures { out.new
-        ≡ body.now ++ drop (length body.now) out.old }
-{
-    let mut i = 0;
-    while i < body.len() {
-        out[i] = body[i];
-        i += 1;
-    }
-}
-
-// A body is prepared.
+// A body is prepared. `out` is a part of all bodies' bytes, a slice: as an array it would have to be tested.
 fn prepare_body(body: &[u8], out: &mut [u8])
     requires { (length body.now ≤ 256) × Clear out.old 512 }
     ensures { Marked body.now out.new 0 }
 {
-    copy_body(body, out);
+    out[..body.len()].copy_from_slice(body);
     mark_all(body, out);
 }
 
@@ -77,9 +61,9 @@ fn body_of(bodies: &[u8], e: usize, size: usize) -> &[u8]
     requires { e < 8 }
     ensures { Cut (body_part bodies.now e size) result.now }
 {
-    let from = basics::smaller(e * 256, bodies.len());
-    let room = basics::smaller(size, 256);
-    let to = basics::smaller(from + room, bodies.len());
+    let from = (e * 256).min(bodies.len());
+    let room = size.min(256);
+    let to = (from + room).min(bodies.len());
     &bodies[from..to]
 }
 
@@ -88,14 +72,10 @@ fn prepare_all(bodies: &[u8], equations: [Equation; 8], all: &mut [u8])
     requires { Clear all.old 4096 }
     ensures { Prepares bodies.now equations all.new }
 {
-    let mut e = 0;
-    while e < 8 {
-        let size = equations[e].length;
+    for e in 0..8 {
         let first = e * 512;
-        let last = first + 512;
-        let body = body_of(bodies, e, size);
-        prepare_body(body, &mut all[first..last]);
-        e += 1;
+        let body = body_of(bodies, e, equations[e].length);
+        prepare_body(body, &mut all[first..first + 512]);
     }
 }
 

@@ -10,8 +10,10 @@ use mathlib.Core.List.{List, ◌++◌, map}
 use lib.Dec.{eqb, leb}
 use lib.ListN.{length, take, replicate, length-map, length-append, length-take}
 use lib.Seq.{sets-eq, take_all, take-length, take-append_seam, length-take-le}
-use borrow.Author.Tests.{eqb-true, leb-true, le-leb, lt-leb}
+use borrow.Author.Tests.{eqb-true, eq-eqb, ne_eqb, leb-true, le-leb, lt-leb}
+use Rattle.std.specs.Prelude.{Result, Ok, Err, IfOk}
 use Rattle.meaning.specs.Words.{word}
+use Rattle.refusals.specs.OneReply.{some_number}
 use Rattle.reading.specs.Reading.{text_refusal}
 use Rattle.reading.specs.Records.{reading}
 use Rattle.answers.specs.Answers.{the_model, list, shown_values, verdict, answer, solved, list_answer}
@@ -25,21 +27,23 @@ use Rattle.frames.specs.Frames.{line_of}
 use Rattle.frames.specs.PutLine.{Puts}
 use Rattle.frames.proofs.Written.{line_length}
 use Rattle.engine.specs.declared.Examined.{Examined}
-use Rattle.engine.specs.Examined.{whole, Examines, Solves}
+use Rattle.engine.specs.declared.Refused.{Refused}
+use Rattle.engine.specs.Told as engine
+use Rattle.engine.specs.Examined.{ExaminedRecord, whole, Examines, Solves}
 use Rattle.printing.specs.Promise.{WritesLines}
-use Rattle.printing.specs.Lines.{reached_lines, answer_text, Printable}
+use Rattle.printing.specs.Lines.{reached_lines, answer_text, Printable, result_text, PrintableResult}
 use Rattle.printing.proofs.Reached.{AllTyped, readable, lines_back}
 use Rattle.printing.proofs.Stores.{lines_short}
 
 -- ---- a text of which e was told with these words: a verdict is its own, and the first words are those of its list
-pub record Told (t words : List ℕ) (e : Examined) : Type 0 where
+pub record Told (t words : List ℕ) (e : ExaminedRecord) : Type 0 where
   pub read : e.model ≡ (reading t).model
   pub accepted : e.answer.number ≡ 0 → (text_refusal t).number ≡ 0
   pub few : e.answer.number ≡ 0 → length (list t) ≤ 512
   pub answer : e.answer.number ≡ 0 → e.answer ≡ verdict t
   pub first : e.answer.number ≡ 0 → take (length (list t)) words ≡ map word (list t)
 
-module _ {t words : List ℕ} {e : Examined} (x : Told t words e) where
+module _ {t words : List ℕ} {e : ExaminedRecord} (x : Told t words e) where
   -- where a verdict is given
   module _ (zero : e.answer.number ≡ 0) where
     as_checked : e.answer ≡ answer t 512
@@ -80,7 +84,7 @@ module _ {t words : List ℕ} {e : Examined} (x : Told t words e) where
       same false zero = refl
 
 -- a check with a table of 512 words
-pub told_checked : {t blank words : List ℕ} {e : Examined} → Examines whole t blank e words → length blank ≡ 512
+pub told_checked : {t blank words : List ℕ} {e : ExaminedRecord} → Examines whole t blank e words → length blank ≡ 512
     → Told t words e
 told_checked {t} {blank} {words} {e} x long =
     let is : e.answer ≡ answer t 512 = rw long at x.answered in
@@ -99,7 +103,7 @@ told_checked {t} {blank} {words} {e} x long =
     }
 
 -- a list that is solved
-pub told_solved : {t lent : List ℕ} {e : Examined} → Solves t lent e → Told t lent e
+pub told_solved : {t lent : List ℕ} {e : ExaminedRecord} → Solves t lent e → Told t lent e
 unfolding solved
 told_solved {t} {lent} {e} x = record {
   read = x.read;
@@ -114,7 +118,7 @@ told_solved {t} {lent} {e} x = record {
     given zero = (solving_given t 8 lent).0 (rw x.answered at zero)
 
 -- ---- "512 instance lines" of at most 15 characters and the verdict's 13
-text_short : (words : List ℕ) (e : Examined) → Printable words e → length (answer_text words e) ≤ smallest_buffer
+text_short : (words : List ℕ) (e : ExaminedRecord) → Printable words e → length (answer_text words e) ≤ smallest_buffer
 unfolding answer_text
 text_short words e p = short (eqb e.answer.number 0) refl
   where
@@ -132,22 +136,34 @@ text_short words e p = short (eqb e.answer.number 0) refl
         )
     short false zero = omega (arith, line_length (refusal_frame e.answer))
 
-told_short : {t words : List ℕ} {e : Examined} → Told t words e → length (answer_lines t e.answer) ≤ smallest_buffer
+told_short : {t words : List ℕ} {e : ExaminedRecord} → Told t words e → length (answer_lines t e.answer) ≤ smallest_buffer
 told_short {words = words} {e} x = rw (printed_is x) at (text_short words e (printable x))
 
 pub printed_short : (t : List ℕ) → length (printed t) ≤ smallest_buffer
 unfolding printed
 printed_short t =
-    let e : Examined = record { answer = answer t 512; model = (reading t).model } in
+    let e : ExaminedRecord = record { answer = answer t 512; model = (reading t).model } in
     let x : Examines whole t (replicate 512 0) e _ = record { answered = refl; read = refl; listed = refl } in
     told_short (told_checked x refl)
 
 pub printed_solved_short : (t lent : List ℕ) → length (printed_solved t lent) ≤ smallest_buffer
 unfolding printed_solved
 printed_solved_short t lent =
-    let e : Examined = record { answer = list_answer t lent; model = (reading t).model } in
+    let e : ExaminedRecord = record { answer = list_answer t lent; model = (reading t).model } in
     let x : Solves t lent e = record { answered = refl; read = refl } in
     told_short (told_solved x)
+
+-- ---- a result: what is told of it can be printed, and its lines are those of what is told
+pub printable_result : (t words : List ℕ) (r : Result Examined Refused) → IfOk r (λ e. e.answer.number ≡ 0)
+    → Told t words (engine.told r) → PrintableResult words r
+printable_result t words (Ok e) zero x = (zero, printable x)
+printable_result t words (Err r) zero x = tt
+
+pub result_is : (t words : List ℕ) (r : Result Examined Refused) → IfOk r (λ e. e.answer.number ≡ 0)
+    → Told t words (engine.told r) → result_text words r ≡ answer_lines t (engine.told r).answer
+unfolding answer_text answer_lines
+result_is t words (Ok e) zero x = rw (eq-eqb _ 0 zero) refl ∙ printed_is x
+result_is t words (Err r) zero x = rw (ne_eqb _ 0 (some_number r.refusal.reason)) refl
 
 -- ---- the buffer
 pub buffer_stays : {lines out : List ℕ} → length out < smallest_buffer → WritesLines lines out 0 out

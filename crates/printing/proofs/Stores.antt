@@ -8,21 +8,16 @@ use mathlib.Core.Bool.{Bool}
 use mathlib.Core.List.{List, [], ◌∷◌, ◌++◌}
 use lib.ListN.{length, get_or, set, take, drop, length-append, length-take}
 use lib.Seq.{sets, drop-cons}
-use borrow.Author.Tests.{eq-eqb, ne_eqb}
-use mir.Val.{bool_byte}
 use Rattle.meaning.specs.WordLaws.{arguments_of}
 use Rattle.formulas.specs.declared.Equation.{Equation}
 use Rattle.formulas.specs.declared.Tuple.{Tuple}
 use Rattle.truth.specs.Bits.{bit, bit_of}
-use Rattle.answers.specs.Printed.{verdict_frame, refusal_frame}
 use Rattle.frames.specs.Frames.{line_of}
 use Rattle.frames.specs.PutLine.{Puts}
 use Rattle.frames.proofs.Written.{line_length}
 use Rattle.frames.proofs.Stores.{sets_append}
-use Rattle.words.specs.Unpacked.{argument_tuple}
-use Rattle.engine.specs.declared.Examined.{Examined}
-use Rattle.engine.proofs.Starting.{as_byte}
-use Rattle.printing.specs.Lines.{parameters_of, word_frame, word_lines, reached_lines, answer_text}
+use Rattle.words.specs.Unpacked.{argument_tuple, argument_count}
+use Rattle.printing.specs.Lines.{parameters_of, word_frame, word_lines}
 
 -- ---- the frame of an instance, by how many arguments there are
 value_after : (k e p₀ p₁ p₂ p₃ v : ℕ) → k ≤ 4
@@ -35,15 +30,21 @@ value_after (suc (suc (suc zero))) e p₀ p₁ p₂ p₃ v h = refl
 value_after (suc (suc (suc (suc zero)))) e p₀ p₁ p₂ p₃ v h = refl
 value_after (suc (suc (suc (suc (suc k))))) e p₀ p₁ p₂ p₃ v h = absurd (omega arith)
 
-pub frame_stored : (equations : List Equation) (w : ℕ) (value : Bool) {e : ℕ} {x : Tuple} → e ≡ w / 65536
+-- there are at most four
+pub few_arguments : (w k : ℕ) {x : Tuple} → x ≡ argument_tuple w k → x.count ≤ 4
+few_arguments w k e =
+    let count = ap (λ (x : Tuple). x.count) e ∙ argument_count w k in
+    omega arith
+
+pub frame_stored : (equations : List Equation) (w : ℕ) (value : Bool) {e v : ℕ} {x : Tuple} → e ≡ w / 65536 → v ≡ bit value
     → x ≡ argument_tuple w (parameters_of equations w) → parameters_of equations w ≤ 4
     → (take (x.count + 3)
     (set (0x04 ∷ e ∷ get_or x.values 0 0 ∷ get_or x.values 1 0 ∷ get_or x.values 2 0 ∷ get_or x.values 3 0 ∷ 0 ∷ 0 ∷ [])
-    (x.count + 2) (bool_byte value)) ≡ word_frame equations w value) × (x.count + 3 ≡ parameters_of equations w + 3)
+    (x.count + 2) v) ≡ word_frame equations w value) × (x.count + 3 ≡ parameters_of equations w + 3)
 unfolding word_frame arguments_of argument_tuple
-frame_stored equations w value is unpacked few =
+frame_stored equations w value is shown unpacked few =
     let four : min (parameters_of equations w) 4 ≡ parameters_of equations w = omega arith in
-    rw (is, unpacked, four, as_byte value) (value_after (parameters_of equations w) _ _ _ _ _ _ few, refl)
+    rw (is, shown, unpacked, four) (value_after (parameters_of equations w) _ _ _ _ _ _ few, refl)
 
 module _ (equations : List Equation) (truth : List ℕ) where
   pub lines_more : (j : ℕ) (ws : List ℕ) → j < length ws → word_lines equations truth j (drop j ws)
@@ -67,22 +68,14 @@ module _ (equations : List Equation) (truth : List ℕ) where
       let rest = word_lines equations truth (suc j) ws in
       omega (arith, length-append (line_of f) rest, line_length f, frame_short w (bit_of truth j), lines_short (suc j) ws)
 
--- ---- a whole answer: on a refusal one line, on a verdict the instances' lines and then the verdict's
-module _ (words : List ℕ) (e : Examined) (out : List ℕ) {f out' : List ℕ} {r : ℕ} where
-  pub refused : (e.answer.number ≡ 0 → ⊥) → f ≡ refusal_frame e.answer → Puts out 0 (line_of f) r out'
-      → Puts out 0 (answer_text words e) r out'
-  unfolding answer_text
-  refused wrong is w = rw (ne_eqb _ _ wrong, ← is) w
-
-  pub told : {middle : List ℕ} {at : ℕ} → e.answer.number ≡ 0 → f ≡ verdict_frame e.answer
-      → Puts out 0 (reached_lines words e) at middle → Puts middle at (line_of f) r out' → Puts out 0 (answer_text words e) r out'
-  unfolding answer_text
-  told {at} right is v w =
-      let lines = reached_lines words e in
-      rw (eq-eqb _ _ right, ← is) (
-        omega (arith, length-append lines (line_of f)),
-        w.1
-            ∙ ap (λ (m : List ℕ). sets m at (line_of f)) v.1
-            ∙ ap (λ (n : ℕ). sets (sets out 0 lines) n (line_of f)) v.0
-            ∙ sym (sets_append out 0 lines (line_of f)),
-      )
+-- ---- a whole answer on a verdict: the instances' lines and then the verdict's
+pub told : (lines rest out : List ℕ) (at : ℕ) {middle out' : List ℕ} {r : ℕ} → Puts out 0 lines at middle
+    → Puts middle at rest r out'
+    → Puts out 0 (lines ++ rest) r out'
+told lines rest out at v w = (
+  omega (arith, length-append lines rest),
+  w.1
+      ∙ ap (λ (m : List ℕ). sets m at rest) v.1
+      ∙ ap (λ (n : ℕ). sets (sets out 0 lines) n rest) v.0
+      ∙ sym (sets_append out 0 lines rest),
+)

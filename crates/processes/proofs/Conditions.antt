@@ -11,12 +11,13 @@ use borrow.Author.Tests.{le-ltb, le-leb}
 use Rattle.meaning.specs.Logic.{◌and◌, and-false}
 use Rattle.meaning.specs.Formulas.{Test, Term, Formula, constant, joined, quantified, compared, instance}
 use Rattle.meaning.specs.Ranges.{is_range, fits}
+use Rattle.std.specs.Prelude.{Option, None, Some}
 use Rattle.formulas.specs.declared.Kind.{Kind}
-use Rattle.formulas.specs.declared.Kind.TheVariants.{NoFormula, Constant, Join, Quantifier, Compare, Instance}
+use Rattle.formulas.specs.declared.Kind.TheVariants.{Constant, Join, Quantifier, Compare, Instance}
 use Rattle.formulas.specs.Codes.{kind_of}
 use Rattle.formulas.specs.Decode.{Parsed, none, some, then, when, nth_term, test_of, terms_at, formula_at}
 use Rattle.formulas.proofs.Shapes.{shape_no_formula, shape_constant, shape_join, shape_quantifier, shape_compare, shape_instance}
-use Rattle.formulas.specs.Ends.{end_where, condition_end}
+use Rattle.formulas.specs.Ends.{place_where, condition_place}
 use Rattle.translation.specs.Rules.{plain}
 
 -- a formula in which nothing but instances could be wrong with a condition
@@ -93,22 +94,22 @@ compared_alike t a b rs = refl
 
 -- ---- so with any number of quantifiers around, and four
 module _ (s : List ℕ) where
-  by_kind : (n k q at : ℕ) → ((m : ℕ) → Beside (formula_at n s k q m) (formula_at n s k 4 m)) → (kind : Kind)
+  by_kind : (n k q at : ℕ) → ((m : ℕ) → Beside (formula_at n s k q m) (formula_at n s k 4 m)) → (kind : Option Kind)
       → kind_of (get_or s at 0) ≡ kind → Beside (formula_at (suc n) s k q at) (formula_at (suc n) s k 4 at)
-  by_kind n k q at sub NoFormula h = rw (shape_no_formula n s k q at h, shape_no_formula n s k 4 at h) neither
-  by_kind n k q at sub (Constant b) h =
+  by_kind n k q at sub None h = rw (shape_no_formula n s k q at h, shape_no_formula n s k 4 at h) neither
+  by_kind n k q at sub (Some (Constant b)) h =
       rw (shape_constant n s k q at b h, shape_constant n s k 4 at b h) (both (constant_alike b))
-  by_kind n k q at sub (Join all) h =
+  by_kind n k q at sub (Some (Join all)) h =
       rw (shape_join n s k q at all h, shape_join n s k 4 at all h)
       (join_read all (sub (at + 1)) (formula_at n s k q) (formula_at n s k 4) sub)
-  by_kind n k q at sub (Quantifier all) h =
+  by_kind n k q at sub (Some (Quantifier all)) h =
       rw (shape_quantifier n s k q at all h, shape_quantifier n s k 4 at all h)
       (quantifier_read all (get_or s (at + 1) 0) (ltb q 4) (is_range (get_or s (at + 1) 0))
       (formula_at n s (k + 1) (q + 1) (at + 2)))
-  by_kind n k q at sub (Compare t) h =
+  by_kind n k q at sub (Some (Compare t)) h =
       rw (shape_compare n s k q at t h, shape_compare n s k 4 at t h)
       (same_read _ (λ ts. compared_alike (test_of t) (nth_term ts 0) (nth_term ts 1)) (terms_at n 2 s k (at + 1)))
-  by_kind n k q at sub Instance h =
+  by_kind n k q at sub (Some Instance) h =
       rw (shape_instance n s k q at h, shape_instance n s k 4 at h)
       (instance_read (get_or s (at + 1) 0) (leb (get_or s (at + 1 + 1) 0) 4)
       (terms_at n (get_or s (at + 1 + 1) 0) s k (at + 1 + 2)))
@@ -119,12 +120,12 @@ module _ (s : List ℕ) where
   beside (suc n) k q at = by_kind n k q at (beside n k q) (kind_of (get_or s at 0)) refl
 
 -- ---- where a condition ends
-same_end : (rs : List ℕ) {p p' : Parsed Formula} → Beside p p' → end_where (λ f. fits [] f rs) p' ≡ end_where plain p
+same_end : (rs : List ℕ) {p p' : Parsed Formula} → Beside p p' → place_where (λ f. fits [] f rs) p' ≡ place_where plain p
 same_end rs neither = refl
 same_end rs (both a) = rw (a rs) refl
 same_end rs (without h) = rw h refl
 
 pub condition_plain : (s : List ℕ) (at : ℕ) (rs : List ℕ) {k : ℕ} → length s ≤ 256 → length rs ≡ k
-    → condition_end s at rs ≡ end_where plain (formula_at (length s) s k 0 at)
-unfolding condition_end
+    → condition_place s at rs ≡ place_where plain (formula_at (length s) s k 0 at)
+unfolding condition_place
 condition_plain s at rs {k} h e = rw (le-leb (length s) 256 h, e) (same_end rs (beside s (length s) k 0 at))

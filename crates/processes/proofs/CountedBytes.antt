@@ -1,20 +1,19 @@
 -- The bytes behind the count of a frame, tested and taken one by one.
--- What is left from a place on has its first byte in front; the walk keeps that it decides.
-use Prim.Native.Nat.{ℕ, suc, ◌+◌, ◌-◌, ◌≤◌, ◌<◌}
+-- What is left from a place on has its first byte in front, so a test of all places is a test of all bytes there.
+use Prim.Native.Nat.{ℕ, zero, suc, ◌+◌, ◌-◌, ◌≤◌, ◌<◌}
 use native.Mathlib.Omega.{arith}
-use mathlib.Core.Path.{◌≡◌, refl, sym, ap, ◌∙◌}
-use mathlib.Core.Bool.{Bool, true, false}
+use mathlib.Core.Path.{◌≡◌, refl, sym, ap, ap₂, ◌∙◌}
+use mathlib.Core.Bool.{Bool, true, false, ◌&&◌}
 use mathlib.Core.List.{List, [], ◌∷◌, ◌++◌, append-nil}
 use lib.Dec.{ltb}
 use lib.ListN.{get_or}
 use lib.Seq.{append_snoc}
+use Rattle.std.specs.List.{list_all, range_with_len}
 use Rattle.meaning.specs.Logic.{◌and◌}
 use Rattle.meaning.specs.Ranges.{is_range, all_ranges, within}
 use Rattle.formulas.specs.declared.Tuple.{Tuple}
 use Rattle.formulas.specs.Tuples.{items, Pushes}
 use Rattle.formulas.specs.Contract.{part}
-use Rattle.inputs.specs.Inputs.{count_of}
-use Rattle.processes.specs.SummandTests.{counted_bytes, following_bytes}
 
 module _ (f : List ℕ) (count : ℕ) where
   -- those from place j on, the first i of them left out
@@ -38,58 +37,30 @@ module _ (f : List ℕ) (count : ℕ) where
   unfolding part
   left_none j i h = let none : count - i ≡ 0 = omega arith in rw none refl
 
-  -- ---- are they ranges?
-  abbrev pub ranges_left : ℕ → Bool
-  ranges_left i = all_ranges (left 2 i)
+-- ---- a test of all
+both : (a : Bool) {b c : Bool} → b ≡ c → a && b ≡ a and c
+unfolding ◌and◌
+both true e = e
+both false e = refl
 
-  pub ranges_all : count ≡ count_of f → all_ranges (counted_bytes f) ≡ ranges_left 0
-  ranges_all e = rw (left_all 2, e) refl
+pub ranges_told : (f : List ℕ) (i n : ℕ) → list_all (λ i. is_range (get_or f (2 + i) 0)) (range_with_len i n)
+    ≡ all_ranges (part f (2 + i) n)
+unfolding part all_ranges
+ranges_told f i zero = refl
+ranges_told f i (suc n) =
+    let next : 2 + (i + 1) ≡ 2 + i + 1 = omega arith in
+    both (is_range (get_or f (2 + i) 0)) (ranges_told f (i + 1) n ∙ ap (λ (j : ℕ). all_ranges (part f j n)) next)
 
-  pub ranges_next : (i : ℕ) → i < count → (b : Bool) → b ≡ is_range (get_or f (2 + i) 0)
-      → ranges_left i ≡ b and ranges_left (i + 1)
-  unfolding all_ranges
-  ranges_next i h b e = rw (left_next 2 i h, e) refl
-
-  pub ranges_none : (i : ℕ) → count ≤ i → ranges_left i ≡ true
-  unfolding all_ranges
-  ranges_none i h = rw (left_none 2 i h) refl
-
-  -- ---- are the values behind them below them?
-  abbrev pub below_left : ℕ → Bool
-  below_left i = within (left (2 + count) i) (left 2 i)
-
-  pub below_all : count ≡ count_of f → within (following_bytes f) (counted_bytes f) ≡ below_left 0
-  below_all e = rw (left_all 2, left_all (2 + count), e) refl
-
-  pub below_next : (i : ℕ) → i < count → (b : Bool) → b ≡ ltb (get_or f (2 + count + i) 0) (get_or f (2 + i) 0)
-      → below_left i ≡ b and below_left (i + 1)
-  unfolding within
-  below_next i h b e = rw (left_next 2 i h, left_next (2 + count) i h, e) refl
-
-  pub below_none : (i : ℕ) → count ≤ i → below_left i ≡ true
-  unfolding within
-  below_none i h = rw (left_none 2 i h, left_none (2 + count) i h) refl
-
--- ---- a test of all, which what is left from i on decides
-pub record Walk (all : Bool) (rest : ℕ → Bool) (count i : ℕ) : Type 0 where
-  pub near : i ≤ count
-  pub small : count < 256
-  pub same : all ≡ rest i
-
-pub walk_start : {all : Bool} {rest : ℕ → Bool} {count : ℕ} → count < 256 → all ≡ rest 0 → Walk all rest count 0
-walk_start s e = record { near = omega arith; small = s; same = e }
-
-module _ {all : Bool} {rest : ℕ → Bool} {count i : ℕ} (w : Walk all rest count i) where
-  pub walk_more : i < count → rest i ≡ true and rest (i + 1) → Walk all rest count (i + 1)
-  unfolding ◌and◌
-  walk_more h e = record { near = omega arith; small = w.small; same = w.same ∙ e }
-
-  pub walk_stop : rest i ≡ false and rest (i + 1) → false ≡ all
-  unfolding ◌and◌
-  walk_stop e = sym (w.same ∙ e)
-
-  pub walk_end : rest i ≡ true → true ≡ all
-  walk_end e = sym (w.same ∙ e)
+pub below_told : (f : List ℕ) (count i n : ℕ)
+    → list_all (λ i. ltb (get_or f (2 + count + i) 0) (get_or f (2 + i) 0)) (range_with_len i n)
+    ≡ within (part f (2 + count + i) n) (part f (2 + i) n)
+unfolding part within
+below_told f count i zero = refl
+below_told f count i (suc n) =
+    let next : 2 + (i + 1) ≡ 2 + i + 1 = omega arith in
+    let behind : 2 + count + (i + 1) ≡ 2 + count + i + 1 = omega arith in
+    both (ltb (get_or f (2 + count + i) 0) (get_or f (2 + i) 0))
+    (below_told f count (i + 1) n ∙ ap₂ (λ (j k : ℕ). within (part f j n) (part f k n)) behind next)
 
 -- ---- put behind others: what was put and what is left make the whole
 pub record Putting (f : List ℕ) (count : ℕ) (got all : Tuple) (i : ℕ) : Type 0 where

@@ -20,7 +20,7 @@ use Rattle.inputs.proofs.FramesSpelled.{process_fits}
 use Rattle.inputs.specs.Content.{Stage, nothing, begun, whole, Next, a_note, a_process, a_summand, a_formula}
 use Rattle.inputs.proofs.Content.{code_more}
 use Rattle.inputs.proofs.Content.{next_frame, next_stage}
-use Rattle.inputs.proofs.SheetLaws.{sheet_size, sheet_more, sheet_first, first_ranges}
+use Rattle.inputs.proofs.SheetLaws.{sheet_more, sheet_first, first_ranges}
 use Rattle.processes.specs.Contract.{is_next}
 
 -- ---- a sheet that begins with a process
@@ -63,9 +63,6 @@ unfolding sheet_over with_code
 laid_none e = record { stage = nothing refl; sheet_is = e; counted = refl; ended = refl }
 
 module _ {done : List (List ℕ)} {sheet : List ℕ} {count : ℕ} {whole : Bool} (l : Laid done sheet count whole) where
-  pub laid_long : length sheet ≡ 4608
-  laid_long = ap length l.sheet_is ∙ sheet_size 0 done _ ∙ length-replicate {A = ℕ} 4608 0
-
   pub laid_head : Head sheet (first_frame done)
   laid_head = rw l.sheet_is (stage_head done l.stage)
 

@@ -2,18 +2,21 @@
 -- The code is known, so the tests compute.
 use Prim.Native.Nat.{ℕ, suc, ◌+◌}
 use native.Mathlib.Omega.{arith}
-use mathlib.Core.Path.{◌≡◌, refl}
+use mathlib.Core.Path.{◌≡◌, refl, ap}
 use mathlib.Core.Bool.{Bool, true, false, not, cond, ◌&&◌}
-use mathlib.Core.List.{List, [], ◌∷◌}
+use mathlib.Core.List.{List, [], ◌∷◌, append-nil}
 use lib.Dec.{eqb, leb, ltb}
 use lib.ListN.{length, get_or}
+use Rattle.std.specs.Prelude.{Option, Some, unwrap_or}
 use Rattle.spelling.specs.Spelled.{either_code}
 use Rattle.spelling.specs.Stands.{Stands, first, after_one, left_part}
 use Rattle.translation.specs.Modal.{Actions, any_action, only, other_than}
 use Rattle.translation.specs.Modal.{Modal, truth, combined, after, fixed_point, of_fixed_point}
 use Rattle.translation.specs.Rules.{action_fits}
 use Rattle.inputs.specs.InputFrames.{spelled_actions, spelled_modal}
-use Rattle.processes.specs.Ends.{after_width, modal_width, action_stands, variable_stands}
+use Rattle.scans.specs.Formulas.{is_fixed, after_width, code_width}
+use Rattle.scans.proofs.ScannedFormulas.{actions_wide}
+use Rattle.processes.specs.Ends.{action_stands, variable_stands}
 use Rattle.processes.proofs.Rows.{width}
 
 -- the bytes of a formula before the formulas inside it
@@ -52,27 +55,23 @@ is_fixed_point (after all A f) = false
 is_fixed_point (fixed_point greatest f) = true
 is_fixed_point (of_fixed_point m) = false
 
--- `32` or `33`
-abbrev pub opens : ℕ → Bool
-opens code = leb 0x32 code && leb code 0x33
-
 pub record Coded (s : List ℕ) (at : ℕ) (f : Modal) : Type 0 where
   pub wide : width s at ≡ own_bytes f
   pub variable : (ends : List ℕ) (count : ℕ) → variable_stands s at ends count ≡ own_variable ends count at f
   pub action : action_stands s at ≡ own_action f
-  pub opening : opens (get_or s at 0) ≡ is_fixed_point f
+  pub opening : is_fixed (get_or s at 0) ≡ is_fixed_point f
 
 -- c is the code of f, and neither a box, a diamond nor a variable
 abbrev Plain : Modal → ℕ → Type 0
 Plain f c =
-    ((x : ℕ) → modal_width c x ≡ own_bytes f) × ((leb 0x30 c && leb c 0x31) ≡ false) × (eqb c 0x34 ≡ false) ×
-    (opens c ≡ is_fixed_point f)
+    ((x : ℕ) → code_width c x ≡ Some (own_bytes f)) × ((leb 0x30 c && leb c 0x31) ≡ false) × (eqb c 0x34 ≡ false) ×
+    (is_fixed c ≡ is_fixed_point f)
 
 -- c is a box or a diamond
 abbrev Step : ℕ → Type 0
 Step c =
-    ((x : ℕ) → modal_width c x ≡ after_width x) × ((leb 0x30 c && leb c 0x31) ≡ true) × (eqb c 0x34 ≡ false) ×
-    (opens c ≡ false)
+    ((x : ℕ) → code_width c x ≡ after_width x) × ((leb 0x30 c && leb c 0x31) ≡ true) × (eqb c 0x34 ≡ false) ×
+    (is_fixed c ≡ false)
 
 of_either : (P : ℕ → Type 0) (b : Bool) (t f : ℕ) → P t → P f → P (either_code b t f)
 unfolding either_code
@@ -80,23 +79,18 @@ of_either P true t f x y = x
 of_either P false t f x y = y
 
 module _ (s : List ℕ) (at : ℕ) where
+  abbrev bytes : Option ℕ → ℕ
+  bytes w = unwrap_or w 0
+
   plain : (f : Modal) (c : ℕ) → get_or s at 0 ≡ c → Plain f c → own_action f ≡ true
       → ((ends : List ℕ) (count : ℕ) → own_variable ends count at f ≡ true) → Coded s at f
   unfolding action_stands variable_stands
   plain f c e p a v = record {
-    wide = rw e (p.0 (get_or s (at + 1) 0));
+    wide = rw e (ap bytes (p.0 (get_or s (at + 1) 0)));
     variable = λ ends count. rw (e, p.2, v ends count) refl;
     action = rw (e, p.1, a) refl;
     opening = rw e p.3;
   }
-
-  -- the bytes of the actions behind a box or a diamond
-  actions_wide : (A : Actions) → Stands s (at + 1) (spelled_actions A)
-      → after_width (get_or s (at + 1) 0) ≡ suc (length (spelled_actions A))
-  unfolding spelled_actions after_width
-  actions_wide any_action h = rw (first s (at + 1) 0x11 [] h) refl
-  actions_wide (only a) h = rw (first s (at + 1) 0x36 (a ∷ []) h) refl
-  actions_wide (other_than a) h = rw (first s (at + 1) 0x35 (a ∷ []) h) refl
 
   actions_told : (A : Actions) → Stands s (at + 1) (spelled_actions A)
       → cond (not (eqb (get_or s (at + 1) 0) 0x11)) (leb (get_or s (at + 2) 0) 15) true ≡ action_fits A
@@ -113,14 +107,15 @@ module _ (s : List ℕ) (at : ℕ) where
       → Stands s (at + 1) (spelled_actions A) → Coded s at (after all A f)
   unfolding action_stands variable_stands
   stepped all A f c e p h = record {
-    wide = rw (e, p.0 (get_or s (at + 1) 0)) (actions_wide A h);
+    wide = rw (e, p.0 (get_or s (at + 1) 0))
+        (ap bytes (actions_wide A s (at + 1) [] (rw (append-nil (spelled_actions A)) h)));
     variable = λ ends count. rw (e, p.2) refl;
     action = rw (e, p.1) (actions_told A h);
     opening = rw e p.3;
   }
 
   pub coded : (f : Modal) → Stands s at (spelled_modal f) → Coded s at f
-  unfolding spelled_modal modal_width action_stands variable_stands
+  unfolding spelled_modal code_width action_stands variable_stands is_fixed
   coded (truth b) h =
       let p = of_either (Plain (truth b)) b 0x11 0x10 ((λ x. refl), refl, refl, refl) ((λ x. refl), refl, refl, refl) in
       plain (truth b) _ (first s at _ _ h) p refl (λ ends count. refl)

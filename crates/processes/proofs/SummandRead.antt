@@ -7,13 +7,15 @@ use mathlib.Core.Bool.{Bool, true, false, false≢true, cond, ◌&&◌}
 use mathlib.Core.List.{List, ◌++◌}
 use lib.Dec.{eqb, ltb, leb}
 use lib.ListN.{length, get_or, length-append}
-use borrow.Author.Tests.{le-leb, lt-leb, lt-ltb, leb-true, leb-false, eqb-true, ne_eqb}
+use borrow.Author.Tests.{le-leb, lt-leb, lt-ltb, leb-true, leb-false, eqb-true}
+use Rattle.std.specs.Prelude.{Option, None, Some}
+use Rattle.std.specs.Option.{option_eq}
 use Rattle.meaning.specs.Logic.{Is, Is→eq, ◌and◌, and-false, cases}
 use Rattle.meaning.specs.Formulas.{Term, Formula}
 use Rattle.meaning.specs.Ranges.{sound, sound_terms, arguments_fit, all_ranges}
 use Rattle.formulas.specs.Decode.{Parsed, none, some, then, terms_at, formula_at}
 use Rattle.formulas.specs.Bodies.{ends}
-use Rattle.formulas.specs.Ends.{end_where, condition_end, terms_end}
+use Rattle.formulas.specs.Ends.{place_where, condition_place, terms_place}
 use Rattle.formulas.specs.Contract.{part, Told}
 use Rattle.formulas.proofs.Told.{told_whole}
 use Rattle.formulas.proofs.Signatures.{part_length}
@@ -22,7 +24,7 @@ use Rattle.formulas.proofs.ByKind.{formula_late}
 use Rattle.translation.specs.Processes.{Summand}
 use Rattle.translation.specs.Rules.{plain, well_formed_summand}
 use Rattle.inputs.specs.Inputs.{count_of, ranges_of, summand_from, summand_at, read_or, no_summand, is_summand}
-use Rattle.processes.specs.SummandTests.{counted_bytes, four_bytes, is_step, SummandJudged}
+use Rattle.processes.specs.SummandTests.{counted_bytes, four_bytes, is_step, is_step_behind, SummandJudged}
 use Rattle.processes.proofs.Conditions.{condition_plain}
 use Rattle.processes.proofs.FrameTests.{ranges_taken}
 
@@ -70,10 +72,10 @@ same_tests true true true true true false h = refl
 same_tests true true true true false true h = refl
 same_tests true true true true false false h = refl
 
-end_test : (w : Bool) (e size : ℕ) → 0 < size → eqb (cond w e 0) size ≡ w and eqb e size
+end_test : (w : Bool) (e size : ℕ) → option_eq eqb (cond w (Some e) None) (Some size) ≡ w and eqb e size
 unfolding ◌and◌
-end_test true e size h = refl
-end_test false e size h = ne_eqb 0 size (λ x. absurd (omega (arith, x)))
+end_test true e size = refl
+end_test false e size = refl
 
 last_fails : (x y : Bool) → x && (y && false) ≡ false
 last_fails true true = refl
@@ -91,19 +93,18 @@ module _ (rs f : List ℕ) (short : length f ≤ 256) where
   abbrev scope : List ℕ
   scope = rs ++ counted_bytes f
 
-  abbrev tests : ℕ → Bool
-  tests e = leb (count_of f) 4 && (all_ranges (counted_bytes f) && is_step f e scope rs)
+  abbrev tests : Option ℕ → Bool
+  tests p = leb (count_of f) 4 && (all_ranges (counted_bytes f) && is_step_behind f p scope rs)
 
   scope_length : length scope ≡ reach
   scope_length = length-append rs (counted_bytes f) ∙ ap (λ (x : ℕ). length rs + x) (part_length f 2 (count_of f))
 
-  no_condition : tests 0 ≡ false
-  unfolding is_step
+  no_condition : tests None ≡ false
   no_condition = last_fails (leb (count_of f) 4) (all_ranges (counted_bytes f))
 
-  terms_read : (at : ℕ) → terms_end f at scope rs
-      ≡ end_where (λ ts. arguments_fit ts rs scope) (terms_at (length f) (length rs) f reach at)
-  unfolding terms_end
+  terms_read : (at : ℕ) → terms_place f at scope rs
+      ≡ place_where (λ ts. arguments_fit ts rs scope) (terms_at (length f) (length rs) f reach at)
+  unfolding terms_place
   terms_read at = rw (le-leb (length f) 256 short, scope_length) refl
 
   -- nothing read
@@ -148,9 +149,9 @@ module _ (rs f : List ℕ) (short : length f ≤ 256) where
         && (all_ranges (counted_bytes f) && ((ltb 0 e && ltb e (length f)) && (leb (get_or f e 0) 15 && b)))
 
     abbrev last_test : Bool
-    last_test = eqb (end_where (λ ts. arguments_fit ts rs scope) terms) (length f)
+    last_test = option_eq eqb (place_where (λ ts. arguments_fit ts rs scope) terms) (Some (length f))
 
-    tests_are : tests e ≡ tests_with last_test
+    tests_are : tests (Some e) ≡ tests_with last_test
     unfolding is_step
     tests_are = rw (terms_read (e + 1)) refl
 
@@ -165,10 +166,10 @@ module _ (rs f : List ℕ) (short : length f ≤ 256) where
     unfolding is_summand summand_at
     unread_summand t = rw (read, t) refl
 
-    unread_terms : terms ≡ none → tests e ≡ is_summand rs f
+    unread_terms : terms ≡ none → tests (Some e) ≡ is_summand rs f
     unfolding ◌and◌
     unread_terms t =
-        let no : last_test ≡ true and false = rw t (ne_eqb 0 (length f) (λ x. absurd (omega (arith, x, inside)))) in
+        let no : last_test ≡ true and false = rw t refl in
         tests_are ∙ ap tests_with no ∙ reordered true false (λ x. absurd (false≢true x)) ∙ unread_summand t
 
     -- terms
@@ -195,23 +196,24 @@ module _ (rs f : List ℕ) (short : length f ≤ 256) where
       unfolding is_summand summand_at
       read_summand = rw (read, t) refl
 
-      read_terms : tests e ≡ is_summand rs f
+      read_terms : tests (Some e) ≡ is_summand rs f
       read_terms =
-          let last : last_test ≡ fit and eqb m (length f) = rw t (end_test fit m (length f) (omega (arith, inside))) in
+          let last : last_test ≡ fit and eqb m (length f) = rw t (end_test fit m (length f)) in
           tests_are ∙ ap tests_with last ∙ reordered fit (eqb m (length f)) ends_inside ∙
           ap (λ b. eqb m (length f) && b) (sym judged) ∙ read_summand
 
-    by_terms : plain c ≡ true → (p : Parsed (List Term)) → terms ≡ p → tests e ≡ is_summand rs f
+    by_terms : plain c ≡ true → (p : Parsed (List Term)) → terms ≡ p → tests (Some e) ≡ is_summand rs f
     by_terms h none t = unread_terms t
     by_terms h (some ts m) t = read_terms h t
 
   -- ---- all cases
-  by_formula : (p : Parsed Formula) → formula_at (length f) f reach 0 first ≡ p → tests (end_where plain p) ≡ is_summand rs f
+  by_formula : (p : Parsed Formula) → formula_at (length f) f reach 0 first ≡ p → tests (place_where plain p) ≡ is_summand rs f
   by_formula none read = no_condition ∙ unread read
   by_formula (some c e) read =
       cases (plain c) (λ h. rw h (by_terms read h (terms read) refl)) (λ h. rw h (no_condition ∙ rejected read h))
 
-  pub summand_tested : leb (count_of f) 4 && (all_ranges (counted_bytes f) && is_step f (condition_end f first scope) scope rs)
+  pub summand_tested : leb (count_of f) 4
+      && (all_ranges (counted_bytes f) && is_step_behind f (condition_place f first scope) scope rs)
       ≡ is_summand rs f
   summand_tested =
       ap tests (condition_plain f first scope short scope_length) ∙ by_formula (formula_at (length f) f reach 0 first) refl
@@ -230,9 +232,9 @@ module _ (process f : List ℕ) (short : length f ≤ 256) {own : ℕ} (same : o
     pub summand_no_ranges : all_ranges (counted_bytes f) ≡ false → SummandJudged process f false
     summand_no_ranges h = record { judged = λ _ _. rw (four, h) at (summand_tested (ranges_of process) f short) }
 
-    pub summand_rest : all_ranges (counted_bytes f) ≡ true → {parameters scope : List ℕ} {end : ℕ} {r : Bool}
+    pub summand_rest : all_ranges (counted_bytes f) ≡ true → {parameters scope : List ℕ} {end : Option ℕ} {r : Bool}
         → parameters ≡ four_bytes process → scope ≡ parameters ++ four_bytes f
-        → end ≡ condition_end f (2 + own) scope → r ≡ is_step f end scope parameters → SummandJudged process f r
+        → end ≡ condition_place f (2 + own) scope → r ≡ is_step_behind f end scope parameters → SummandJudged process f r
     summand_rest h {parameters} {scope} {end} {r} ps ss es rs = record { judged = by_parameters }
       where
         by_parameters : count_of process ≤ 4 → 6 ≤ length process → r ≡ is_summand (ranges_of process) f

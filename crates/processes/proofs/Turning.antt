@@ -6,23 +6,26 @@ use mathlib.Core.Path.{◌≡◌, refl, sym, ap, ◌∙◌}
 use mathlib.Core.Bool.{Bool, true, false, false≢true, ◌&&◌}
 use mathlib.Core.List.{List, [], ◌∷◌, ◌++◌}
 use lib.ListN.{length, get_or, set, length-append}
+use Rattle.std.specs.Prelude.{Option, None, Some, unwrap_or}
+use Rattle.std.proofs.lemmas.Option.{none-some}
 use Rattle.meaning.specs.Logic.{◌and◌, is, and-true}
 use Rattle.spelling.specs.Stands.{Stands, after_one, left_part, right_part, moved, stands_inside}
 use Rattle.translation.specs.Modal.{Modal, truth, combined, after, fixed_point, of_fixed_point, fixed_points}
 use Rattle.translation.specs.Rules.{action_fits, well_formed_formula}
 use Rattle.inputs.specs.InputFrames.{spelled_actions, spelled_modal}
 use Rattle.inputs.specs.ModalRead.{modal_read, modal_on}
+use Rattle.scans.specs.Formulas.{is_fixed}
 use Rattle.processes.specs.Ends.{end_of, ModalEnds, action_stands, variable_stands}
 use Rattle.processes.proofs.Rows.{width}
-use Rattle.processes.proofs.OwnBytes.{own_some, is_fixed_point, opens, Coded, coded}
+use Rattle.processes.proofs.OwnBytes.{own_some, is_fixed_point, Coded, coded}
 use Rattle.processes.proofs.Pending.{Scope, none_around, narrowed, is_around, within}
 use Rattle.processes.proofs.Pending.{Pending, all_formed, Placed, placed_behind, Walk}
 
 -- a fixed point that opens at a place is kept with its end
 pub data Opened (s : List ℕ) (at : ℕ) (ends : List ℕ) (count : ℕ) (ends' : List ℕ) (count' : ℕ) : Type 0 where
-  opened : (e : ℕ) → opens (get_or s at 0) ≡ true → ModalEnds s (at + 1) e → ends' ≡ set ends count e → count' ≡ count + 1
-      → Opened s at ends count ends' count'
-  not_opened : opens (get_or s at 0) ≡ false → ends' ≡ ends → count' ≡ count → Opened s at ends count ends' count'
+  opened : (e : ℕ) → is_fixed (get_or s at 0) ≡ true → ModalEnds s (at + 1) (Some e) → ends' ≡ set ends count e
+      → count' ≡ count + 1 → Opened s at ends count ends' count'
+  not_opened : is_fixed (get_or s at 0) ≡ false → ends' ≡ ends → count' ≡ count → Opened s at ends count ends' count'
 
 -- what is left behind the code at a place, which has been tested
 pub record Next (s ends : List ℕ) (count at : ℕ) (whole : Bool) : Type 0 where
@@ -38,6 +41,13 @@ and_again false b c = refl
 and_yes : (b : Bool) → b && true ≡ b
 and_yes true = refl
 and_yes false = refl
+
+-- where a formula stands, it is read up to its end
+modal_ended : (s : List ℕ) (at : ℕ) {e : Option ℕ} → ModalEnds s at e → (f : Modal) → Stands s at (spelled_modal f)
+    → e ≡ Some (at + length (spelled_modal f))
+modal_ended s at ended f h =
+    ended.ended (length s) (omega arith) ∙
+    ap end_of (modal_read f (length s) s at h (omega (arith, stands_inside s at (spelled_modal f) h)))
 
 module _ (s ends : List ℕ) (count at : ℕ) (around : List ℕ) (ps : List Pending) where
   abbrev size : Modal → ℕ
@@ -105,11 +115,9 @@ module _ (s ends : List ℕ) (count at : ℕ) (around : List ℕ) (ps : List Pen
       }
 
   -- the fixed point of number `count` ends where its formula does
-  module _ (place : count < length ends) (e : ℕ) (ended : ModalEnds s (at + 1) e) where
+  module _ (place : count < length ends) (e : ℕ) (ended : ModalEnds s (at + 1) (Some e)) where
     ends_there : (f : Modal) → Stands s (at + 1) (spelled_modal f) → e ≡ at + 1 + size f
-    ends_there f h =
-        ended.ended (length s) (omega arith) ∙
-        ap end_of (modal_read f (length s) s (at + 1) h (omega (arith, stands_inside s (at + 1) (spelled_modal f) h)))
+    ends_there f h = ap (λ (o : Option ℕ). unwrap_or o 0) (modal_ended s (at + 1) ended f h)
 
     open_turn : (f : Modal) → is_fixed_point f ≡ true → Coded s at f → Stands s at (spelled_modal f)
         → Scope ends count around at (at + size f) → Placed s ends count (at + size f) ps
@@ -147,6 +155,22 @@ module _ (s ends : List ℕ) (count at : ℕ) (around : List ℕ) (ps : List Pen
 
 -- ---- the whole walk
 module _ (s ends : List ℕ) (count at : ℕ) where
+  -- a fixed point stands before a formula
+  some_end : (f : Modal) → Coded s at f → Stands s at (spelled_modal f) → is_fixed (get_or s at 0) ≡ true
+      → ModalEnds s (at + 1) None → ⊥
+  unfolding spelled_modal
+  some_end (truth b) c h x e = absurd (false≢true (sym c.opening ∙ x))
+  some_end (combined all f g) c h x e = absurd (false≢true (sym c.opening ∙ x))
+  some_end (after all A f) c h x e = absurd (false≢true (sym c.opening ∙ x))
+  some_end (fixed_point greatest f) c h x e = none-some _ (modal_ended s (at + 1) e f (after_one s at _ _ h))
+  some_end (of_fixed_point m) c h x e = absurd (false≢true (sym c.opening ∙ x))
+
+  ended : (ps : List Pending) → at < length s → Placed s ends count at ps → is_fixed (get_or s at 0) ≡ true
+      → ModalEnds s (at + 1) None → ⊥
+  unfolding Placed
+  ended [] l p x e = absurd (omega (arith, p))
+  ended (p ∷ ps) l h x e = some_end p.formula (coded s at p.formula h.0) h.0 x e
+
   turn_pending : (ps : List Pending) {ends' : List ℕ} {count' : ℕ} → count < length ends → at < length s
       → Opened s at ends count ends' count' → Placed s ends count at ps → Next s ends' count' at (all_formed count ps)
   unfolding Placed all_formed
@@ -173,6 +197,9 @@ module _ (s ends : List ℕ) (count at : ℕ) where
 module _ {s ends : List ℕ} {count at : ℕ} {whole : Bool} (w : Walk s ends count at whole) where
   pub walk_coded : at < length s → width s at ≡ 0 → ⊥
   walk_coded l = some_code s ends count at w.pending l w.placed
+
+  pub walk_ended : at < length s → is_fixed (get_or s at 0) ≡ true → ModalEnds s (at + 1) None → ⊥
+  walk_ended l x e = ended s ends count at w.pending l w.placed x e
 
   pub walk_done : length s ≤ at → whole ≡ true
   walk_done l = w.same ∙ all_done s ends count at w.pending l w.placed

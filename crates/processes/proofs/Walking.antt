@@ -3,17 +3,24 @@
 use Prim.Native.Nat.{ℕ, ◌+◌, ◌≤◌, ◌<◌}
 use native.Mathlib.Omega.{arith}
 use mathlib.Core.Path.{◌≡◌, refl, sym, ap, ◌∙◌}
-use mathlib.Core.Bool.{Bool, true, false, ◌&&◌}
+use mathlib.Core.Bool.{true, false, ◌&&◌}
 use mathlib.Core.List.{List, []}
-use lib.ListN.{length, length-set, replicate}
+use lib.Dec.{ltb}
+use lib.ListN.{length, length-set, replicate, get_or, take}
+use lib.Seq.{get_or-take, length-take-le}
+use borrow.Author.Tests.{ltb-true}
+use Rattle.std.specs.Prelude.{None}
+use Rattle.meaning.specs.Logic.{cases}
 use Rattle.spelling.specs.Stands.{Stands}
 use Rattle.translation.specs.Modal.{Modal}
 use Rattle.translation.specs.Rules.{well_formed_formula}
 use Rattle.inputs.specs.InputFrames.{spelled_modal}
-use Rattle.processes.specs.Ends.{action_stands, variable_stands, WellFormedTold}
+use Rattle.scans.specs.Formulas.{is_fixed}
+use Rattle.processes.specs.Ends.{ModalEnds, action_stands, variable_stands, WellFormedTold}
 use Rattle.processes.proofs.Rows.{width, width_most}
 use Rattle.processes.proofs.Pending.{Walk}
-use Rattle.processes.proofs.Turning.{Opened, opened, not_opened, walk_start, walk_coded, walk_stops, walk_goes, walk_done}
+use Rattle.processes.proofs.Turning.{Opened, opened, not_opened, walk_start}
+use Rattle.processes.proofs.Turning.{walk_coded, walk_ended, walk_stops, walk_goes, walk_done}
 
 pub record Walking (s ends : List ℕ) (count at : ℕ) : Type 0 where
   pub size : length ends ≡ 256
@@ -34,7 +41,7 @@ pub opened_size : {s ends ends' : List ℕ} {at count count' : ℕ} → Opened s
 opened_size {ends = ends} {count = count} (opened e x y q r) = ap length q ∙ length-set ends count e
 opened_size (not_opened x q r) = ap length q
 
-opened_count : {s ends ends' : List ℕ} {at count count' : ℕ} → Opened s at ends count ends' count' → count' ≤ count + 1
+pub opened_count : {s ends ends' : List ℕ} {at count count' : ℕ} → Opened s at ends count ends' count' → count' ≤ count + 1
 opened_count (opened e x y q r) = omega arith
 opened_count (not_opened x q r) = omega arith
 
@@ -45,19 +52,33 @@ module _ {s ends : List ℕ} {count at : ℕ} (w : Walking s ends count at) wher
   pub walking_none : at < length s → width s at ≡ 0 → WellFormedTold s false
   walking_none l x = record { told = λ f h e. absurd (walk_coded (w.walk f h e) l x) }
 
+  pub walking_ended : at < length s → is_fixed (get_or s at 0) ≡ true → ModalEnds s (at + 1) None → WellFormedTold s false
+  walking_ended l x e = record { told = λ f h q. absurd (walk_ended (w.walk f h q) l x e) }
+
   module _ {ends' : List ℕ} {count' : ℕ} (short : length s ≤ 256) (l : at < length s)
-      (o : Opened s at ends count ends' count') {fits : Bool}
-      (x : fits ≡ variable_stands s at ends' count' && action_stands s at) where
+      (o : Opened s at ends count ends' count') where
     place : count < length ends
     place = omega (arith, w.size, w.few)
 
-    pub walking_stops : fits ≡ false → WellFormedTold s false
-    walking_stops y = record { told = λ f h e. sym (walk_stops (w.walk f h e) place l o (sym x ∙ y)) }
+    pub walking_stops : variable_stands s at ends' count' && action_stands s at ≡ false → WellFormedTold s false
+    walking_stops x = record { told = λ f h e. sym (walk_stops (w.walk f h e) place l o x) }
 
-    pub walking_more : fits ≡ true → (width s at ≡ 0 → ⊥) → Walking s ends' count' (at + width s at)
-    walking_more y z = record {
+    pub walking_more : variable_stands s at ends' count' ≡ true → action_stands s at ≡ true → (width s at ≡ 0 → ⊥)
+        → Walking s ends' count' (at + width s at)
+    walking_more x y z = record {
       size = opened_size o ∙ w.size;
       few = omega (arith, w.few, opened_count o);
       near = omega (arith, width_most s at);
-      walk = λ f h e. walk_goes (w.walk f h e) place l o (sym x ∙ y);
+      walk = λ f h e. walk_goes (w.walk f h e) place l o (rw (x, y) refl);
     }
+
+-- ---- of the fixed points so far the ends are kept, and nothing more
+pub variable_taken : (s : List ℕ) (at : ℕ) (ends : List ℕ) (count : ℕ) → count ≤ length ends
+    → variable_stands s at (take count ends) (length (take count ends)) ≡ variable_stands s at ends count
+unfolding variable_stands
+variable_taken s at ends count few =
+    let n = get_or s (at + 1) 0 in
+    let size : length (take count ends) ≡ count = length-take-le count ends few in
+    cases (ltb n count)
+    (λ b. rw (size, get_or-take count ends n 0 (ltb-true n count b)) refl)
+    (λ b. rw (size, b) refl)

@@ -1,7 +1,7 @@
 -- What the contracts of the functions that read formulas say; no word of the documents is defined here.
--- A place is where something ends; 0 stands for nothing that could be read.
+-- A place is where something ends, where it could be read.
 use Rattle.std.specs.Prelude.{ℕ, ◌+◌, ◌≤◌, ◌≡◌, Bool, true, not, cond, ◌&&◌, List, [], eqb, leb, ltb, length}
-use Rattle.std.specs.Prelude.{get_or}
+use Rattle.std.specs.Prelude.{get_or, Option, None, Some}
 use Rattle.formulas.specs.Decode.{Parsed, none, some}
 use Rattle.spelling.specs.Stands.{Stands}
 use Rattle.translation.specs.Modal.{Modal}
@@ -9,30 +9,13 @@ use Rattle.translation.specs.Rules.{well_formed_formula}
 use Rattle.inputs.specs.Modals.{modal_at}
 use Rattle.inputs.specs.InputFrames.{spelled_modal}
 
--- where what was read ends; 0 where nothing was
-abbrev pub end_of : {A : Type 0} → Parsed A → ℕ
-end_of none = 0
-end_of (some a e) = e
-
--- how many bytes a code takes with what is no formula behind it; `first` is the byte after it. 0 is for what
--- is no code, or no actions
-unfoldable pub after_width : ℕ → ℕ
-after_width first = cond (eqb first 0x11) 2 (cond (eqb first 0x35) 3 (cond (eqb first 0x36) 3 0))
-
-unfoldable pub modal_width : ℕ → ℕ → ℕ
-modal_width code first =
-    cond (eqb code 0x10) 1
-    (cond (eqb code 0x11) 1
-    (cond (eqb code 0x12) 1
-    (cond (eqb code 0x13) 1
-    (cond (eqb code 0x30) (after_width first)
-    (cond (eqb code 0x31) (after_width first)
-    (cond (eqb code 0x32) 1
-    (cond (eqb code 0x33) 1
-    (cond (eqb code 0x34) 2 0))))))))
+-- where what was read ends
+abbrev pub end_of : {A : Type 0} → Parsed A → Option ℕ
+end_of none = None
+end_of (some a e) = Some e
 
 -- n is deep enough: as many as the bytes that are left
-pub record ModalEnds (s : List ℕ) (at r : ℕ) : Type 0 where
+pub record ModalEnds (s : List ℕ) (at : ℕ) (r : Option ℕ) : Type 0 where
   pub ended : (n : ℕ) → length s ≤ n + at → r ≡ end_of (modal_at n s at)
 
 -- what stands at a place is no box and no diamond, or one of any action, or its action is at most 15

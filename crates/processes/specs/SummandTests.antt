@@ -1,8 +1,10 @@
 -- What the contracts of the functions that read a summand say; no word of the documents is defined here.
--- A place is where the condition ends; 0 stands for no condition.
-use Rattle.std.specs.Prelude.{ℕ, ◌+◌, ◌≤◌, min, ◌≡◌, Bool, ◌&&◌, List, eqb, ltb, leb, length, get_or}
+-- A place is where the condition ends.
+use Rattle.std.specs.Prelude.{ℕ, ◌+◌, ◌≤◌, min, ◌≡◌, Bool, false, ◌&&◌, List, eqb, ltb, leb, length, get_or}
+use Rattle.std.specs.Prelude.{Option, None, Some}
+use Rattle.std.specs.Option.{option_eq}
 use Rattle.formulas.specs.Contract.{part}
-use Rattle.formulas.specs.Ends.{terms_end}
+use Rattle.formulas.specs.Ends.{terms_place}
 use Rattle.inputs.specs.Inputs.{count_of, ranges_of, is_summand}
 
 -- the bytes that stand behind the count of a `09` or `07`, as many as it says; a byte past the end reads 0
@@ -21,7 +23,12 @@ four_bytes f = part f 2 (min (count_of f) 4)
 unfoldable pub is_step : List ℕ → ℕ → List ℕ → List ℕ → Bool
 is_step f at scope rs =
     (ltb 0 at && ltb at (length f))
-    && (leb (get_or f at 0) 15 && eqb (terms_end f (at + 1) scope rs) (length f))
+    && (leb (get_or f at 0) 15 && option_eq eqb (terms_place f (at + 1) scope rs) (Some (length f)))
+
+-- where the condition ends, if there is one
+abbrev pub is_step_behind : List ℕ → Option ℕ → List ℕ → List ℕ → Bool
+is_step_behind f None scope rs = false
+is_step_behind f (Some at) scope rs = is_step f at scope rs
 
 -- whether a frame is a summand of the process whose frame some bytes begin with
 pub record SummandJudged (process f : List ℕ) (r : Bool) : Type 0 where

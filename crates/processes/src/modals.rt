@@ -2,60 +2,34 @@
 // other they tell how many are still to come.
 ghost use Rattle.std.specs.Prelude.{◌≡◌, ◌+◌, ◌≤◌, length, get_or};
 ghost use Rattle.inputs.specs.Inputs.{is_formula};
-ghost use Rattle.processes.specs.Ends.{after_width, modal_width, ModalEnds};
+ghost use Rattle.scans.specs.Formulas.{code_width};
+ghost use Rattle.processes.specs.Ends.{ModalEnds};
 
 use crate::scopes::is_well_formed;
 
-// How many bytes a box or a diamond takes with its actions, which begin with this byte; 0 where these are
-// none.
-fn after_width(first: u8) -> usize
-    ensures { result ≡ after_width first }
-{
-    match first {
-        0x11 => 2,
-        0x35 => 3,
-        0x36 => 3,
-        _ => 0,
-    }
-}
-
-// How many bytes the code at a place takes with what is no formula behind it; 0 where there is no code.
-pub(crate) fn width_at(frame: &[u8], at: usize) -> usize
+// How many bytes the code at a place takes with what is no formula behind it.
+pub(crate) fn width_at(frame: &[u8], at: usize) -> Option<usize>
     requires { at ≤ 512 }
     ensures { result ≡
-        modal_width (get_or frame.now at 0) (get_or frame.now (at + 1) 0) }
+        code_width (get_or frame.now at 0) (get_or frame.now (at + 1) 0) }
 {
-    let code = basics::element(frame, at);
-    match code {
-        0x10 => 1,
-        0x11 => 1,
-        0x12 => 1,
-        0x13 => 1,
-        0x30 => after_width(basics::element(frame, at + 1)),
-        0x31 => after_width(basics::element(frame, at + 1)),
-        0x32 => 1,
-        0x33 => 1,
-        0x34 => 2,
-        _ => 0,
-    }
+    scans::code_width(basics::element(frame, at), basics::element(frame, at + 1))
 }
 
-// Where the formula at a place ends; 0 where there is none.
-pub(crate) fn modal_end(frame: &[u8], start: usize) -> usize
+// Where the formula at a place ends.
+pub(crate) fn modal_end(frame: &[u8], start: usize) -> Option<usize>
     requires { (length frame.now ≤ 256) × (start ≤ 256) }
     ensures { ModalEnds frame.now start result }
 {
     let mut at = start;
     let mut left: usize = 1;
+    // A while: the step is the code's width.
     while 0 < left {
-        let width = width_at(frame, at);
-        if width == 0 {
-            return 0;
-        }
+        let width = width_at(frame, at)?;
         left = left - 1 + scans::parts_of(basics::element(frame, at));
         at += width;
     }
-    at
+    Some(at)
 }
 
 // Whether a frame with first byte `08` is one formula, with each variable within its fixed point.
@@ -63,12 +37,5 @@ pub(crate) fn is_formula(frame: &[u8]) -> bool
     requires { length frame.now ≤ 256 }
     ensures { result ≡ is_formula frame.now }
 {
-    let end = modal_end(frame, 1);
-    if end == 0 {
-        return false;
-    }
-    if end != frame.len() {
-        return false;
-    }
-    is_well_formed(frame)
+    modal_end(frame, 1) == Some(frame.len()) && is_well_formed(frame)
 }

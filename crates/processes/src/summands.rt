@@ -15,12 +15,10 @@ fn with_ranges(frame: &[u8], got: Tuple) -> Tuple
     ensures { (items result ≡ items got ++ four_bytes frame.now) ×
         (result.count ≤ got.count + 4) }
 {
-    let count = basics::smaller(basics::wide(basics::element(frame, 1)), 4);
+    let count = usize::from(basics::element(frame, 1)).min(4);
     let mut all = got;
-    let mut i: usize = 0;
-    while i < count {
+    for i in 0..count {
         all = formulas::push(all, basics::element(frame, 2 + i));
-        i += 1;
     }
     all
 }
@@ -29,15 +27,8 @@ fn with_ranges(frame: &[u8], got: Tuple) -> Tuple
 fn are_ranges(frame: &[u8]) -> bool
     ensures { result ≡ all_ranges (counted_bytes frame.now) }
 {
-    let count = basics::wide(basics::element(frame, 1));
-    let mut i: usize = 0;
-    while i < count {
-        if !formulas::is_range(basics::element(frame, 2 + i)) {
-            return false;
-        }
-        i += 1;
-    }
-    true
+    let count = usize::from(basics::element(frame, 1));
+    (0..count).all(|i| formulas::is_range(basics::element(frame, 2 + i)))
 }
 
 // Whether the values that stand behind the ranges are below them.
@@ -45,46 +36,30 @@ fn are_below(frame: &[u8]) -> bool
     ensures { result ≡ within (following_bytes frame.now)
         (counted_bytes frame.now) }
 {
-    let count = basics::wide(basics::element(frame, 1));
-    let mut i: usize = 0;
-    while i < count {
-        let range = basics::element(frame, 2 + i);
-        if range <= basics::element(frame, 2 + count + i) {
-            return false;
-        }
-        i += 1;
-    }
-    true
+    let count = usize::from(basics::element(frame, 1));
+    (0..count).all(|i| basics::element(frame, 2 + count + i) < basics::element(frame, 2 + i))
 }
 
 // Whether a frame with first byte `09` is a process.
 pub(crate) fn is_process(frame: &[u8]) -> bool
     ensures { result ≡ is_process frame.now }
 {
-    let count = basics::wide(basics::element(frame, 1));
-    if 4 < count {
+    let count = usize::from(basics::element(frame, 1));
+    if 4 < count || frame.len() != 2 + count + count {
         return false;
     }
-    if frame.len() != 2 + count + count {
-        return false;
-    }
-    basics::and(are_ranges(frame), are_below(frame))
+    are_ranges(frame) && are_below(frame)
 }
 
-// Whether an action and the next-state terms stand from `at` on, up to the frame's end; `at` is where the
-// condition ends, 0 where there is none.
+// Whether an action and the next-state terms stand from `at` on, up to the frame's end.
+#[tactic(auto, unfolding(crate::specs::SummandTests::is_step))]
 fn is_step(frame: &[u8], at: usize, scope: Tuple, parameters: Tuple) -> bool
-    requires { length frame.now ≤ 256 }
     ensures { result ≡ is_step frame.now at (items scope) (items parameters) }
 {
-    let size = frame.len();
-    if !basics::and(0 < at, at < size) {
-        return false;
-    }
-    if 15 < basics::element(frame, at) {
-        return false;
-    }
-    formulas::terms_end(frame, at + 1, scope, parameters) == size
+    0 < at
+        && at < frame.len()
+        && basics::element(frame, at) <= 15
+        && formulas::terms_end(frame, at + 1, scope, parameters) == Some(frame.len())
 }
 
 // Whether a frame with first byte `07` is a summand of the process whose frame `process` begins with.
@@ -92,11 +67,8 @@ pub(crate) fn is_summand(process: &[u8], frame: &[u8]) -> bool
     requires { length frame.now ≤ 256 }
     ensures { SummandJudged process.now frame.now result }
 {
-    let own = basics::wide(basics::element(frame, 1));
-    if 4 < own {
-        return false;
-    }
-    if !are_ranges(frame) {
+    let own = usize::from(basics::element(frame, 1));
+    if 4 < own || !are_ranges(frame) {
         return false;
     }
     let none = Tuple {
@@ -106,5 +78,5 @@ pub(crate) fn is_summand(process: &[u8], frame: &[u8]) -> bool
     let parameters = with_ranges(process, none);
     let scope = with_ranges(frame, parameters);
     let end = formulas::condition_end(frame, 2 + own, scope);
-    is_step(frame, end, scope, parameters)
+    end.is_some_and(|at| is_step(frame, at, scope, parameters))
 }

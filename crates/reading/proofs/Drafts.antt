@@ -15,12 +15,12 @@ use Rattle.meaning.specs.Logic.{cases}
 use Rattle.frames.specs.Frames.{Frame}
 use Rattle.formulas.specs.declared.Equation.{Equation}
 use Rattle.formulas.specs.Bodies.{is_body}
-use Rattle.reading.specs.declared.Model.{Model}
 use Rattle.reading.specs.Contract.{with_equation, with_start, with_frame, body_kept}
 use Rattle.reading.specs.Equations.{ranges_in, body_in, is_valid_head}
 use Rattle.reading.specs.Models.{code_of, frames_with, equations_in, starts_in, is_none, first_of}
 use Rattle.reading.specs.Reading.{equation_refusal, start_refusal, frame_refusal}
-use Rattle.reading.specs.Records.{equation_record, start_record, no_equation, eight, model_record, bodies_over, bodies_of}
+use Rattle.reading.specs.Records.{equation_record, start_record, no_equation, eight, ModelRecord, model_record, bodies_over}
+use Rattle.reading.specs.Records.{bodies_of}
 use Rattle.reading.proofs.Refusals.{&&-left, &&-right, passed}
 
 -- ---- what 5 and 6 leave of an equation's frame
@@ -45,12 +45,12 @@ pub record Kept (fs : List Frame) : Type 0 where
   pub begun : is_none (starts_in fs) ≡ false → 2 ≤ length (first_of (starts_in fs)).bytes
 
 -- the records and the bodies are those of these frames
-pub record Drafted (place : ℕ → ℕ) (fs : List Frame) (m : Model) (bodies : List ℕ) : Type 0 where
+pub record Drafted (place : ℕ → ℕ) (fs : List Frame) (m : ModelRecord) (bodies : List ℕ) : Type 0 where
   pub model : m ≡ model_record place (equations_in fs) (starts_in fs)
   pub stored : bodies ≡ bodies_of (equations_in fs)
   pub kept : Kept fs
 
-pub drafted_as : {place : ℕ → ℕ} {fs : List Frame} {m n : Model} {bodies others : List ℕ} → n ≡ m → others ≡ bodies
+pub drafted_as : {place : ℕ → ℕ} {fs : List Frame} {m n : ModelRecord} {bodies others : List ℕ} → n ≡ m → others ≡ bodies
     → Drafted place fs m bodies → Drafted place fs n others
 drafted_as e b d = record { model = e ∙ d.model; stored = b ∙ d.stored; kept = d.kept }
 
@@ -142,7 +142,7 @@ kept_none = record {
   begun = λ h. absurd (true≢false h);
 }
 
-pub drafted_none : (place : ℕ → ℕ) {m : Model} {bodies : List ℕ} → m ≡ model_record place [] [] → bodies ≡ replicate 2048 0
+pub drafted_none : (place : ℕ → ℕ) {m : ModelRecord} {bodies : List ℕ} → m ≡ model_record place [] [] → bodies ≡ replicate 2048 0
     → Drafted place [] m bodies
 unfolding bodies_over frames_with
 drafted_none place e b = record { model = e; stored = b; kept = kept_none }
@@ -234,14 +234,14 @@ record_start : (place : ℕ → ℕ) (es ss : List Frame) (f : Frame)
 unfolding model_record with_start
 record_start place es ss f = refl
 
-module _ {place : ℕ → ℕ} {fs : List Frame} {m : Model} {bodies : List ℕ} (d : Drafted place fs m bodies) where
+module _ {place : ℕ → ℕ} {fs : List Frame} {m : ModelRecord} {bodies : List ℕ} (d : Drafted place fs m bodies) where
   pub count_is : m.count ≡ length (equations_in fs)
   unfolding model_record
-  count_is = ap (λ (m : Model). m.count) d.model
+  count_is = ap (λ (m : ModelRecord). m.count) d.model
 
   pub unstarted_is : not m.started ≡ is_none (starts_in fs)
   unfolding model_record
-  unstarted_is = ap (λ (m : Model). not m.started) d.model ∙ not-not (is_none (starts_in fs))
+  unstarted_is = ap (λ (m : ModelRecord). not m.started) d.model ∙ not-not (is_none (starts_in fs))
 
   module _ (line at : ℕ) (f : List ℕ) (p : place line ≡ at) where
     abbrev frame : Frame
@@ -250,10 +250,10 @@ module _ {place : ℕ → ℕ} {fs : List Frame} {m : Model} {bodies : List ℕ}
     model_more : Goes fs frame
         → with_frame m line at f ≡ model_record place (equations_in (fs ++ (frame ∷ []))) (starts_in (fs ++ (frame ∷ [])))
     model_more (equation c l e es ss) = rw c
-        (ap (λ (x : Model). with_equation x line (equation_record at f)) d.model ∙ sym
+        (ap (λ (x : ModelRecord). with_equation x line (equation_record at f)) d.model ∙ sym
         (ap₂ (model_record place) es ss ∙ rw (← p) (record_more place (equations_in fs) (starts_in fs) frame l)))
     model_more (start o c l es ss) = rw (o, c)
-        (ap (λ (x : Model). with_start x (start_record line f)) d.model ∙ sym
+        (ap (λ (x : ModelRecord). with_start x (start_record line f)) d.model ∙ sym
         (ap₂ (model_record place) es ss ∙ record_start place (equations_in fs) (starts_in fs) frame))
     model_more (note o c es ss) = rw (o, c) (d.model ∙ sym (ap₂ (model_record place) es ss))
 

@@ -3,30 +3,35 @@
 use Prim.Native.Nat.{ℕ, zero, suc, ◌+◌, ◌-◌, ◌*◌, ◌≤◌, ◌<◌}
 use native.Mathlib.Omega.{arith}
 use mathlib.Core.Path.{◌≡◌, refl, sym, ap, ◌∙◌}
-use mathlib.Core.Bool.{Bool, true, false, cond, not, ◌&&◌}
+use mathlib.Core.Bool.{Bool, true, cond, not, ◌&&◌}
 use mathlib.Core.List.{List, [], ◌∷◌, ◌++◌, map}
-use lib.Dec.{eqb, leb, ltb}
+use lib.Dec.{leb, ltb}
 use lib.ListN.{length, get_or, take, drop, replicate, length-drop, length-map, length-append, length-replicate, length-take}
 use lib.ListN.{drop_of_length-le}
 use lib.Seq.{take_at, drop-cons}
-use borrow.Author.Tests.{leb-true, leb-false, eq-eqb, ne_eqb}
+use borrow.Author.Tests.{leb-true, leb-false, ne_eqb}
+use Rattle.std.specs.Prelude.{None, Result, Ok, Err, IsErrAnd}
 use Rattle.meaning.specs.Logic.{◌and◌, and-false, cases}
 use Rattle.meaning.specs.Ranges.{signatures, typed}
 use Rattle.meaning.specs.WordLaws.{four_of}
 use Rattle.meaning.proofs.WordLaws.{first_of_four}
+use Rattle.refusals.specs.declared.Refusal as refusals
+use Rattle.refusals.specs.Numbers.{number_of}
+use Rattle.refusals.specs.OneReply.{some_number}
 use Rattle.frames.specs.Lines.{line_place}
 use Rattle.frames.specs.Frames.{Frame, frames}
 use Rattle.formulas.specs.declared.Equation.{Equation}
 use Rattle.formulas.specs.Bodies.{blank, ranges_of, signatures_of, is_fitting}
 use Rattle.formulas.proofs.Decoded.{body_short}
 use Rattle.reading.specs.declared.Model.{Model}
-use Rattle.reading.specs.declared.Outcome.{Outcome}
-use Rattle.reading.specs.Contract.{stopped, start_from, is_start, fits_at, FirstMisfit, Finishes, no_start, misfits}
-use Rattle.reading.specs.Contract.{wrong_start, passes, LinesRead}
+use Rattle.reading.specs.declared.Reading.{Reading}
+use Rattle.reading.specs.Contract.{start_from, is_start, fits_at, FirstMisfit, all_fit, misfit, Finishes, no_start, misfits}
+use Rattle.reading.specs.Contract.{wrong_start, passes, LinesRead, accepted, stopped}
 use Rattle.reading.specs.Equations.{four_ranges, ranges_in, body_in, equation_of, start_of}
 use Rattle.reading.specs.Models.{frames_with, equations_in, starts_in, is_none, first_of, model_of}
 use Rattle.reading.specs.Reading.{Refusal, refused, instances_judged, start_judged, finished, text_refusal}
-use Rattle.reading.specs.Records.{equation_record, start_record, eight, model_record, bodies_over, reading}
+use Rattle.reading.specs.Records.{equation_record, start_record, eight, ModelRecord, model_record, bodies_over}
+use Rattle.reading.specs.Records.{ReadingRecord, told, reading}
 use Rattle.reading.proofs.Starts.{other_length}
 use Rattle.reading.proofs.Drafts.{Drafted, no_frame, count_is, unstarted_is, length_bodies, body_stored}
 
@@ -44,7 +49,7 @@ mapped_at g (x ∷ l) more zero a b h = refl
 mapped_at g (x ∷ l) more (suc j) a b h = mapped_at g l more j a b (omega arith)
 
 -- ---- the sizes that the code asks for
-module _ {place : ℕ → ℕ} {fs : List Frame} {m : Model} {bodies : List ℕ} (d : Drafted place fs m bodies) where
+module _ {place : ℕ → ℕ} {fs : List Frame} {m : ModelRecord} {bodies : List ℕ} (d : Drafted place fs m bodies) where
   abbrev es : List Frame
   es = equations_in fs
 
@@ -53,11 +58,11 @@ module _ {place : ℕ → ℕ} {fs : List Frame} {m : Model} {bodies : List ℕ}
 
   pub eight_equations : length m.equations ≡ 8
   unfolding model_record
-  eight_equations = ap (λ (m : Model). length m.equations) d.model ∙ eight_length _ es _ d.kept.sound.few
+  eight_equations = ap (λ (m : ModelRecord). length m.equations) d.model ∙ eight_length _ es _ d.kept.sound.few
 
   pub eight_lines : length m.lines ≡ 8
   unfolding model_record
-  eight_lines = ap (λ (m : Model). length m.lines) d.model ∙ eight_length _ es _ d.kept.sound.few
+  eight_lines = ap (λ (m : ModelRecord). length m.lines) d.model ∙ eight_length _ es _ d.kept.sound.few
 
   pub bodies_long : length bodies ≡ 2048
   bodies_long = ap length d.stored ∙ length_bodies 0 es _
@@ -73,12 +78,12 @@ module _ {place : ℕ → ℕ} {fs : List Frame} {m : Model} {bodies : List ℕ}
     pub equation_there : get_or m.equations j blank ≡ equation_record (place there.line) there.bytes
     unfolding model_record
     equation_there =
-        ap (λ (m : Model). get_or m.equations j blank) d.model ∙
+        ap (λ (m : ModelRecord). get_or m.equations j blank) d.model ∙
         mapped_at (λ f. equation_record (place f.line) f.bytes) es _ j no_frame blank in_frames
 
     pub line_there : get_or m.lines j 0 ≡ there.line
     unfolding model_record
-    line_there = ap (λ (m : Model). get_or m.lines j 0) d.model ∙ mapped_at (λ f. f.line) es _ j no_frame 0 in_frames
+    line_there = ap (λ (m : ModelRecord). get_or m.lines j 0) d.model ∙ mapped_at (λ f. f.line) es _ j no_frame 0 in_frames
 
     length_there : (get_or m.equations j blank).length ≡ length (body_in there.bytes)
     unfolding equation_record
@@ -102,7 +107,7 @@ module _ {place : ℕ → ℕ} {fs : List Frame} {m : Model} {bodies : List ℕ}
   pub signatures_same : signatures_of m.equations m.count ≡ signatures (model_of fs)
   unfolding model_record model_of record_of
   signatures_same =
-      ap (λ (m : Model). signatures_of m.equations m.count) d.model ∙
+      ap (λ (m : ModelRecord). signatures_of m.equations m.count) d.model ∙
       ap (map ranges_of) (take_at (map record_of es) _ (length es) (length-map es record_of)) ∙ ranges_same es
 
   abbrev fit : Frame → Bool
@@ -163,23 +168,8 @@ signatures_short (f ∷ fs) zero = omega (arith, length-take (get_or f.bytes 2 0
 signatures_short (f ∷ fs) (suc i) = signatures_short fs i
 
 -- ---- all together
-nowhere : (place : ℕ → ℕ) → model_record (λ i. 0) [] [] ≡ model_record place [] []
-unfolding model_record
-nowhere place = refl
-
--- a text that is refused
-pub lines_refused : (t after : List ℕ) (n i : ℕ) {r : Outcome} → r ≡ stopped n i → (n ≡ 0 → ⊥) → text_refusal t ≡ refused n i
-    → LinesRead t after r
-lines_refused t after n i e z h = rw e (record {
-  number = sym (ap (λ (r : Refusal). r.number) h);
-  line = sym (ap (λ (r : Refusal). r.line) h);
-  nothing = λ _. nowhere;
-  model = λ y. absurd (z y);
-  bodies = λ y. absurd (z y);
-})
-
 -- a text whose lines were all read
-module _ (t : List ℕ) {m : Model} {bodies : List ℕ} (d : Drafted (line_place t) (frames t).all m bodies) (line : ℕ)
+module _ (t : List ℕ) {m : ModelRecord} {bodies : List ℕ} (d : Drafted (line_place t) (frames t).all m bodies) (line : ℕ)
     (h : text_refusal t ≡ finished (frames t).all line) where
   abbrev all : List Frame
   all = (frames t).all
@@ -192,58 +182,50 @@ module _ (t : List ℕ) {m : Model} {bodies : List ℕ} (d : Drafted (line_place
   unfolding is_start model_record model_of
   start_is s =
       ap (λ (x : List (List ℕ)). leb m.start.count 4 && typed x (start_from m)) (signatures_same d) ∙
-      ap (λ (x : Model). leb x.start.count 4 && typed (signatures (model_of all)) (start_from x)) d.model ∙
+      ap (λ (x : ModelRecord). leb x.start.count 4 && typed (signatures (model_of all)) (start_from x)) d.model ∙
       start_same (signatures (model_of all)) (first_of (starts_in all)).line (first_of (starts_in all)).bytes
       (d.kept.begun (begun s)) (signatures_short (equations_in all))
 
   start_line : m.start.line ≡ (first_of (starts_in all)).line
   unfolding model_record start_record
-  start_line = ap (λ (x : Model). x.start.line) d.model
+  start_line = ap (λ (x : ModelRecord). x.start.line) d.model
 
   -- after the start: the first equations that fit are passed over
-  passed_over : {r : ℕ} → m.started ≡ true → FirstMisfit m bodies r → let sigs = signatures (model_of all) in
+  passed_over : (r : ℕ) → m.started ≡ true → r ≤ m.count → ((j : ℕ) → j < r → fits_at m bodies j ≡ true)
+      → let sigs = signatures (model_of all) in
       text_refusal t ≡ instances_judged sigs (drop r (equations_in all)) (start_judged sigs (first_of (starts_in all)))
   unfolding finished
-  passed_over {r} s f =
-      let near = f.near in
-      h ∙ rw (begun s) (judged_on _ _ (equations_in all) r (λ j l. sym (fits_there d j (omega arith)) ∙ f.fit j l))
+  passed_over r s near fit =
+      h ∙ rw (begun s) (judged_on _ _ (equations_in all) r (λ j l. sym (fits_there d j (omega arith)) ∙ fit j l))
 
-  judged_start : m.started ≡ true → FirstMisfit m bodies m.count
+  judged_start : m.started ≡ true → FirstMisfit m bodies None
       → text_refusal t ≡ cond (is_start m) (refused 0 0) (refused 8 m.start.line)
   unfolding instances_judged start_judged
-  judged_start s f =
+  judged_start s (all_fit fits) =
       let none = drop_of_length-le (equations_in all) {i = m.count} (omega (arith, count_is d)) in
-      passed_over s f ∙ rw (none, start_is s, start_line) refl
+      passed_over m.count s (omega arith) fits ∙ rw (none, start_is s, start_line) refl
 
-  pub lines_ended : {r : Outcome} → Finishes m bodies line r → LinesRead t bodies r
+  pub lines_ended : {r : Result Model refusals.Refusal} → Finishes m bodies line r → LinesRead t bodies r
   unfolding finished instances_judged
-  lines_ended (no_start s) = lines_refused t bodies 4 line refl (λ z. omega arith) (h ∙ rw (begun s) refl)
-  lines_ended (misfits {j} s l f) =
+  lines_ended (no_start s) = stopped (h ∙ rw (begun s) refl)
+  lines_ended (misfits s (misfit {j} l fits fails)) =
       let there = drop-cons (equations_in all) j no_frame (rw (count_is d) at l) in
-      let misfit = sym (fits_there d j l) ∙ f.misfit l in
-      lines_refused t bodies 7 _ refl (λ z. omega arith) (passed_over s f ∙ rw (there, line_there d j l, misfit) refl)
-  lines_ended (wrong_start s f e) = lines_refused t bodies 8 _ refl (λ z. omega arith) (judged_start s f ∙ rw e refl)
-  lines_ended (passes s f e) =
-      let z : text_refusal t ≡ refused 0 0 = judged_start s f ∙ rw e refl in
-      record {
-        number = sym (ap (λ (r : Refusal). r.number) z);
-        line = sym (ap (λ (r : Refusal). r.line) z);
-        nothing = λ h. absurd (h refl);
-        model = λ _. d.model;
-        bodies = λ _. d.stored;
-      }
+      let misses = sym (fits_there d j l) ∙ fails in
+      stopped (passed_over j s (omega arith) fits ∙ rw (there, line_there d j l, misses) refl)
+  lines_ended (wrong_start s f e) = stopped (judged_start s f ∙ rw e refl)
+  lines_ended (passes s f e same) = accepted (judged_start s f ∙ rw e refl) (same ∙ d.model) d.stored
 
 -- ---- the whole reading
-module _ (t : List ℕ) {after : List ℕ} {r : Outcome} (e : LinesRead t after r) where
-  pub reading_refused : (r.number ≡ 0 → ⊥)
-      → record { number = r.number; line = r.line; model = r.model; bodies = replicate 2048 0 } ≡ reading t
-  unfolding reading frames_with bodies_over
-  reading_refused z =
-      let n : eqb (text_refusal t).number 0 ≡ false = ne_eqb _ 0 (λ y. z (e.number ∙ y)) in
-      rw (e.nothing z (line_place t), e.number, e.line) (rw n refl)
+pub reading_read : (t after : List ℕ) (m : Model) → LinesRead t after (Ok m)
+    → told (Ok (record { model = m; bodies = after })) ≡ reading t
+unfolding reading
+reading_read t after m (accepted e same stored) = rw (e, same, stored) refl
 
-  pub reading_read : r.number ≡ 0 → record { number = r.number; line = r.line; model = r.model; bodies = after } ≡ reading t
-  unfolding reading
-  reading_read z =
-      let n : eqb (text_refusal t).number 0 ≡ true = eq-eqb _ 0 (sym e.number ∙ z) in
-      rw (e.model z, e.bodies z, e.number, e.line) (rw n refl)
+pub reading_refused : (t after : List ℕ) (r : refusals.Refusal) → LinesRead t after (Err r) → told (Err r) ≡ reading t
+unfolding reading model_record frames_with bodies_over
+reading_refused t after r (stopped e) = rw (e, ne_eqb (number_of r.reason) 0 (some_number r.reason)) refl
+
+pub told_refused : (x : ReadingRecord) (r : Result Reading refusals.Refusal) (e : refusals.Refusal) → told (Err e) ≡ x
+    → IsErrAnd r (λ f. f ≡ e) → told r ≡ x
+told_refused x (Ok r) e k h = absurd h
+told_refused x (Err f) e k h = rw h k

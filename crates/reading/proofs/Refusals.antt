@@ -1,13 +1,13 @@
 -- What a test tells, and an equation's frame as the code judges it, by the record that it makes.
 -- A test has two values; those of a refusal are rewritten one after the other, in the order of the definition.
-use Prim.Native.Nat.{ℕ, ◌+◌, ◌-◌, ◌≤◌, ◌<◌}
+use Prim.Native.Nat.{ℕ, ◌+◌, ◌-◌, ◌<◌}
 use native.Mathlib.Omega.{arith}
-use mathlib.Core.Path.{◌≡◌, refl, sym, ◌∙◌}
+use mathlib.Core.Path.{◌≡◌, refl, ◌∙◌}
 use mathlib.Core.Bool.{Bool, true, false, cond, not, ◌&&◌, and-eq-true_iff}
 use mathlib.Core.List.{List}
 use lib.ListN.{length, take, drop, length-drop}
 use lib.Seq.{take_all}
-use borrow.Author.Tests.{lt-ltb, leb-true}
+use borrow.Author.Tests.{lt-ltb}
 use Rattle.formulas.specs.declared.Equation.{Equation}
 use Rattle.formulas.specs.Bodies.{ranges_of, is_body}
 use Rattle.reading.specs.Contract.{is_head}
@@ -44,7 +44,3 @@ module _ (f : List ℕ) {e : Equation} (ee : e ≡ equation_record 0 f) where
   unfolding equation_record
   body_is {k} kk bb =
       bb ∙ rw (take_all (length f - (3 + k)) (drop (3 + k) f) (omega (arith, length-drop (3 + k) f)), kk, ee) refl
-
--- a valid head ends within the frame
-pub head_fits : (size : ℕ) (e : Equation) {h : Bool} → h ≡ is_head size e → h ≡ true → 3 + e.k ≤ size
-head_fits size e hh x = leb-true (3 + e.k) size (&&-left _ _ (sym hh ∙ x))

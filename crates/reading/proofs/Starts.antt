@@ -1,91 +1,83 @@
 -- The four ranges of a head, and a start's arguments below the ranges of its equation.
 -- The four tests of the code are the tests on lists, computed for each number of parameters.
-use Prim.Native.Nat.{ℕ, zero, suc, ◌≤◌, ◌<◌, min}
+use Prim.Native.Nat.{ℕ, zero, suc, ◌+◌, ◌≤◌, ◌<◌, min}
 use native.Mathlib.Omega.{arith}
-use mathlib.Core.Path.{◌≡◌, refl, sym, ap, subst, ◌∙◌}
-use mathlib.Core.Bool.{Bool, true, false, cond, ◌&&◌, and-false}
+use mathlib.Core.Path.{◌≡◌, refl, sym, ap, ◌∙◌}
+use mathlib.Core.Bool.{Bool, true, false, ◌&&◌, and-false}
 use mathlib.Core.List.{List, [], ◌∷◌}
-use lib.Dec.{eqb, ltb, leb}
+use lib.Dec.{ltb, leb}
 use lib.ListN.{length, get_or, take, length-take}
-use borrow.Author.Tests.{le-leb, leb-true, lt-ltb, le-ltb, eqb-true, eqb-false}
+use borrow.Author.Tests.{le-leb, leb-true, lt-ltb, le-ltb}
+use Rattle.std.specs.Bool.{MatchBool}
+use Rattle.std.specs.List.{AllWithin, HoldsAt, list_all, range_with_len}
 use Rattle.meaning.specs.Logic.{◌and◌, eq→Is, cases}
 use Rattle.meaning.proofs.Typed.{within_length}
 use Rattle.meaning.specs.Ranges.{is_range, all_ranges, within, typed}
-use Rattle.meaning.specs.WordLaws.{four_of}
-use Rattle.meaning.proofs.WordLaws.{first_of_four}
 use Rattle.formulas.specs.Bodies.{blank, ranges_of}
 use Rattle.formulas.proofs.Bodies.{take_most, signatures_length, signature_at}
-use Rattle.reading.specs.declared.Model.{Model}
 use Rattle.reading.specs.Contract.{is_start}
+use Rattle.reading.specs.Records.{ModelRecord}
 
-four_tests : (p q r s : Bool) → p && (q && (r && s)) ≡ p and (q and (r and (s and true)))
+-- ---- the ranges of a head
+each_range : (s : List ℕ) → AllWithin (λ r. is_range r ≡ true) s 0 (length s) → all_ranges s ≡ true
+unfolding all_ranges ◌and◌
+each_range [] h = refl
+each_range (r ∷ s) h =
+    rw (h 0 0 (omega arith) (omega arith), each_range s (λ k d l m. h (suc k) d (omega arith) (omega arith))) refl
+
+no_range : (s : List ℕ) (k : ℕ) → k < length s → HoldsAt (λ r. is_range r ≡ false) s k → all_ranges s ≡ false
+unfolding all_ranges ◌and◌
+no_range [] k l h = absurd (omega arith)
+no_range (r ∷ s) zero l h = rw (h 0) refl
+no_range (r ∷ s) (suc k) l h = rw (no_range s k (omega arith) h) (and-false (is_range r))
+
+pub ranges_said : (b : Bool) (s : List ℕ) → MatchBool b (AllWithin (λ r. is_range r ≡ true) s 0 (length s))
+    ((k : ℕ) × (k < length s) × HoldsAt (λ r. is_range r ≡ false) s k) → b ≡ all_ranges s
+ranges_said true s h = sym (each_range s h)
+ranges_said false s h = sym (no_range s h.0 h.1 h.2)
+
+-- ---- the arguments of a start: the first n of some, below the first n ranges or not
+abbrev pub below_at : List ℕ → List ℕ → ℕ → Bool
+below_at x rs i = ltb (get_or x i 0) (get_or rs i 0)
+
+both : (b : Bool) {x y : Bool} → x ≡ y → b && x ≡ b and y
 unfolding ◌and◌
-four_tests false q r s = refl
-four_tests true false r s = refl
-four_tests true true false s = refl
-four_tests true true true false = refl
-four_tests true true true true = refl
+both true e = e
+both false e = refl
 
--- the test of argument i, where the equation has so many parameters
-abbrev fits_at : ℕ → List ℕ → List ℕ → ℕ → Bool
-fits_at n x rs i = cond (ltb i n) (ltb (get_or x i 0) (get_or rs i 0)) true
+behind_first : (a r : ℕ) (x rs : List ℕ) (i j n : ℕ) → j ≡ suc i
+    → list_all (below_at (a ∷ x) (r ∷ rs)) (range_with_len j n) ≡ list_all (below_at x rs) (range_with_len i n)
+behind_first a r x rs i j zero e = refl
+behind_first a r x rs i j (suc n) e =
+    rw e (ap (λ b. below_at x rs i && b) (behind_first a r x rs (i + 1) (suc i + 1) n (omega arith)))
 
-abbrev four_fit : ℕ → List ℕ → List ℕ → Bool
-four_fit n x rs = fits_at n x rs 0 && (fits_at n x rs 1 && (fits_at n x rs 2 && fits_at n x rs 3))
-
-all_four : (l : List ℕ) → length l ≡ 4 → four_of l ≡ l
-all_four l h = rw h at (first_of_four l (omega arith))
-
-pub four_ranges : (l : List ℕ) → length l ≡ 4
-    → is_range (get_or l 0 0) && (is_range (get_or l 1 0) && (is_range (get_or l 2 0) && is_range (get_or l 3 0))) ≡ all_ranges l
-unfolding all_ranges
-four_ranges l h =
-    four_tests (is_range (get_or l 0 0)) (is_range (get_or l 1 0)) (is_range (get_or l 2 0)) (is_range (get_or l 3 0)) ∙
-    ap all_ranges (all_four l h)
-
-module _ (a b c d p q r s : ℕ) where
-  same_number : (n : ℕ) → n ≤ 4 → four_fit n (a ∷ b ∷ c ∷ d ∷ []) (p ∷ q ∷ r ∷ s ∷ []) ≡ within (take n (a ∷ b ∷ c ∷ d ∷ []))
-      (take n (p ∷ q ∷ r ∷ s ∷ []))
-  unfolding within ◌and◌
-  same_number zero h = refl
-  same_number (suc zero) h = four_tests (ltb a p) true true true
-  same_number (suc (suc zero)) h = four_tests (ltb a p) (ltb b q) true true
-  same_number (suc (suc (suc zero))) h = four_tests (ltb a p) (ltb b q) (ltb c r) true
-  same_number (suc (suc (suc (suc zero)))) h = four_tests (ltb a p) (ltb b q) (ltb c r) (ltb d s)
-  same_number (suc (suc (suc (suc (suc n))))) h = absurd (omega arith)
+each_below : (x rs : List ℕ) (n : ℕ) → n ≤ length x → n ≤ length rs
+    → list_all (below_at x rs) (range_with_len 0 n) ≡ within (take n x) (take n rs)
+unfolding within
+each_below x rs zero p q = refl
+each_below [] rs (suc n) p q = absurd (omega arith)
+each_below (a ∷ x) [] (suc n) p q = absurd (omega arith)
+each_below (a ∷ x) (r ∷ rs) (suc n) p q =
+    both (ltb a r) (behind_first a r x rs 0 1 n refl ∙ each_below x rs n (omega arith) (omega arith))
 
 pub other_length : (x rs : List ℕ) → (length x ≡ length rs → ⊥) → within x rs ≡ false
 other_length x rs h = cases (within x rs) (λ e. absurd (h (within_length x rs (eq→Is e)))) (λ e. e)
 
 -- n arguments, of which the first four are x, for k parameters, of which the first four have the ranges rs
 module _ (n k m : ℕ) (x rs : List ℕ) (hx : length x ≡ 4) (hr : length rs ≡ 4) (e : m ≡ min k 4) where
-  same : (i : ℕ) → i ≤ 4 → four_fit i x rs ≡ within (take i x) (take i rs)
-  same i h =
-      subst (λ (l : List ℕ). four_fit i l rs ≡ within (take i l) (take i rs)) (all_four x hx)
-      (subst (λ (l : List ℕ). four_fit i (four_of x) l ≡ within (take i (four_of x)) (take i l)) (all_four rs hr)
-      (same_number (get_or x 0 0) (get_or x 1 0) (get_or x 2 0) (get_or x 3 0) (get_or rs 0 0) (get_or rs 1 0) (get_or rs 2 0)
-      (get_or rs 3 0) i
-      h))
+  pub wrong_number : (n ≡ m → ⊥) → false ≡ leb n 4 && within (take n x) (take k rs)
+  wrong_number h = sym (cases (leb n 4) (λ l. rw l (other_length (take n x) (take k rs) (λ q. h
+      (omega (arith, leb-true n 4 l, length-take n x, length-take k rs, q, hx, hr, e))))) (λ l. rw l refl))
 
-  wrong_number : (n ≡ m → ⊥) → leb n 4 && within (take n x) (take k rs) ≡ false
-  wrong_number h = cases (leb n 4) (λ l. rw l (other_length (take n x) (take k rs) (λ q. h
-      (omega (arith, leb-true n 4 l, length-take n x, length-take k rs, q, hx, hr, e))))) (λ l. rw l refl)
+  module _ (same : n ≡ m) where
+    of_these : leb n 4 && within (take n x) (take k rs) ≡ within (take m x) (take m rs)
+    of_these = rw (same, le-leb m 4 (omega (arith, e)), ← take_most rs k 4 hr (leb k 4) refl, ← e) refl
 
-  judged : eqb n m && four_fit m x rs ≡ leb n 4 && within (take n x) (take k rs)
-  judged = cases (eqb n m)
-      (λ h. rw (h, eqb-true n m h, le-leb m 4 (omega (arith, e)), ← take_most rs k 4 hr (leb k 4) refl, ← e)
-      (same m (omega (arith, e))))
-      (λ h. rw h (sym (wrong_number (eqb-false n m h))))
-
-  -- the four tests, joined from the last on, and then with the test of their number
-  pub arguments_judged : {b₀ b₁ b₂ b₃ b₂₃ b₁₂₃ all r : Bool} →
-      b₀ ≡ fits_at m x rs 0 → b₁ ≡ fits_at m x rs 1 → b₂ ≡ fits_at m x rs 2 → b₃ ≡ fits_at m x rs 3 →
-      b₂₃ ≡ b₂ && b₃ → b₁₂₃ ≡ b₁ && b₂₃ → all ≡ b₀ && b₁₂₃ → r ≡ eqb n m && all →
-      r ≡ leb n 4 && within (take n x) (take k rs)
-  arguments_judged e₀ e₁ e₂ e₃ e₂₃ e₁₂₃ e_all e = e ∙ rw (e_all, e₁₂₃, e₂₃, e₀, e₁, e₂, e₃) judged
+    pub all_below : list_all (below_at x rs) (range_with_len 0 m) ≡ leb n 4 && within (take n x) (take k rs)
+    all_below = each_below x rs m (omega (arith, hx, e)) (omega (arith, hr, e)) ∙ sym of_these
 
 -- the start's equation
-module _ (m : Model) (l : m.count ≤ length m.equations) {i : ℕ} (e : i ≡ m.start.equation) where
+module _ (m : ModelRecord) (l : m.count ≤ length m.equations) {i : ℕ} (e : i ≡ m.start.equation) where
   pub start_unnamed : m.count ≤ i → false ≡ is_start m
   unfolding is_start typed ◌and◌
   start_unnamed h = rw (signatures_length m.equations m.count l, ← e, le-ltb i m.count h)

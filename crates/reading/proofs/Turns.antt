@@ -13,10 +13,9 @@ use Rattle.meaning.specs.Logic.{cases}
 use Rattle.digits.specs.Digits.{bytes_of, padded}
 use Rattle.digits.proofs.Pairs.{length_bytes}
 use Rattle.digits.proofs.Filled.{padded_first}
-use Rattle.frames.specs.declared.FrameAt.{FrameAt}
 use Rattle.frames.specs.Lines.{Line, lines_of, all_digits, is_valid_line, line_refusal, place_of, line_place}
 use Rattle.frames.specs.Frames.{Frame, Frames, stopped, with_frame, frames_from, frames}
-use Rattle.frames.specs.FrameAt.{first_length, line_at, end_at, frame_at}
+use Rattle.frames.specs.FrameAt.{first_length, FrameRecord, line_at, end_at, frame_at}
 use Rattle.frames.proofs.At.{first_length_most}
 use Rattle.frames.proofs.Turns.{lines_at, lines_past}
 use Rattle.reading.specs.Reading.{Refusal, refused, finished, frames_judged}
@@ -41,15 +40,15 @@ valid_size l e =
     let valid = (passed (λ n. n) (is_valid_line l) digits.1 (omega arith)).0 in
     leb-true n 512 (&&-left (leb n 512) (eqb (n % 2) 0) (&&-right (l.ended && leb 1 n) (leb n 512 && eqb (n % 2) 0) valid))
 
-module _ (t : List ℕ) (at : ℕ) {f : FrameAt} (e : f ≡ frame_at t at) where
+module _ (t : List ℕ) (at : ℕ) {f : FrameRecord} (e : f ≡ frame_at t at) where
   pub number_is : f.number ≡ line_refusal (line_at t at)
   unfolding frame_at
-  number_is = ap (λ (f : FrameAt). f.number) e ∙ cases (eqb (line_refusal (line_at t at)) 0)
+  number_is = ap (λ (f : FrameRecord). f.number) e ∙ cases (eqb (line_refusal (line_at t at)) 0)
       (λ z. rw z (sym (eqb-true _ 0 z))) (λ z. rw z refl)
 
   pub end_is : f.end ≡ end_at t at
   unfolding frame_at
-  end_is = ap (λ (f : FrameAt). f.end) e ∙ cases (eqb (line_refusal (line_at t at)) 0) (λ z. rw z refl) (λ z. rw z refl)
+  end_is = ap (λ (f : FrameRecord). f.end) e ∙ cases (eqb (line_refusal (line_at t at)) 0) (λ z. rw z refl) (λ z. rw z refl)
 
   pub end_near : at < length t → (at ≤ f.end) × (f.end ≤ length t)
   end_near h =
@@ -68,7 +67,7 @@ module _ (t : List ℕ) (at : ℕ) {f : FrameAt} (e : f ≡ frame_at t at) where
     is_frame = e ∙ rw (sym number_is ∙ z) refl
 
     pub size_is : f.size ≡ length (bytes_of (line_at t at).characters)
-    size_is = ap (λ (f : FrameAt). f.size) is_frame ∙ sym (length_bytes (line_at t at).characters)
+    size_is = ap (λ (f : FrameRecord). f.size) is_frame ∙ sym (length_bytes (line_at t at).characters)
 
     pub small : f.size ≤ 256
     small = omega (arith, size_is, length_bytes (line_at t at).characters, valid_size (line_at t at) (sym number_is ∙ z))
@@ -76,11 +75,11 @@ module _ (t : List ℕ) (at : ℕ) {f : FrameAt} (e : f ≡ frame_at t at) where
     pub bytes_are : take f.size f.bytes ≡ bytes_of (line_at t at).characters
     bytes_are =
         ap (λ (n : ℕ). take n f.bytes) size_is ∙
-        ap (λ (f : FrameAt). take (length (bytes_of (line_at t at).characters)) f.bytes) is_frame ∙
+        ap (λ (f : FrameRecord). take (length (bytes_of (line_at t at).characters)) f.bytes) is_frame ∙
         padded_first (bytes_of (line_at t at).characters) (omega (arith, size_is, small))
 
 -- ---- what is left, one line further
-module _ (t : List ℕ) (done : List Frame) (line at : ℕ) (h : at < length t) {f : FrameAt} (e : f ≡ frame_at t at) where
+module _ (t : List ℕ) (done : List Frame) (line at : ℕ) (h : at < length t) {f : FrameRecord} (e : f ≡ frame_at t at) where
   frames_here : frames_at t line at
       ≡ cond (eqb (line_refusal (line_at t at)) 0)
       (with_frame line (bytes_of (line_at t at).characters) (frames_at t (line + 1) (end_at t at + 1)))

@@ -1,10 +1,12 @@
 -- DEFINITIONS: what reading lends and hands on. Document 01, "What is lent".
 -- The records of the equations, with places in the text; the lines; the start; the bodies' bytes.
 use Rattle.std.specs.Prelude.{ℕ, suc, ◌+◌, ◌-◌, ◌*◌, cond, not, List, [], ◌∷◌, ◌++◌, map, eqb, get_or, length}
-use Rattle.std.specs.Prelude.{replicate}
+use Rattle.std.specs.Prelude.{replicate, Bool, true, Result, Ok, Err}
 use Rattle.std.proofs.lemmas.List.Edits.{sets}
 use Rattle.frames.specs.Lines.{line_place}
 use Rattle.frames.specs.Frames.{Frame, frames}
+use Rattle.refusals.specs.declared.Refusal.{Refusal}
+use Rattle.refusals.specs.Numbers.{number_of}
 use Rattle.formulas.specs.declared.Equation.{Equation}
 use Rattle.reading.specs.declared.Start.{Start}
 use Rattle.reading.specs.declared.Model.{Model}
@@ -41,9 +43,17 @@ no_equation = record { sign = 0; k = 0; ranges = replicate 4 0; place = 0; lengt
 abbrev pub eight : {A : Type 0} → A → List A → List A
 eight x l = l ++ replicate (8 - length l) x
 
+-- the equations, their lines, and the start, where there is one
+pub record ModelRecord : Type 0 where
+  pub count : ℕ
+  pub equations : List Equation
+  pub lines : List ℕ
+  pub started : Bool
+  pub start : Start
+
 -- the records of the frames of some equations and of a start, perhaps; `place` says where a line begins in
 -- the text
-unfoldable pub model_record : (ℕ → ℕ) → List Frame → List Frame → Model
+unfoldable pub model_record : (ℕ → ℕ) → List Frame → List Frame → ModelRecord
 model_record place equations starts = record {
   count = length equations;
   equations = eight no_equation (map (λ f. equation_record (place f.line) f.bytes) equations);
@@ -64,10 +74,32 @@ bodies_of equations = bodies_over 0 equations (replicate 2048 0)
 abbrev pub kept : List ℕ → List Frame
 kept t = cond (eqb (text_refusal t).number 0) (frames t).all []
 
-unfoldable pub reading : List ℕ → Reading
+-- number and line are 0 where the model was read; where it was not, the records and the bodies are those of
+-- no frame
+pub record ReadingRecord : Type 0 where
+  pub number : ℕ
+  pub line : ℕ
+  pub model : ModelRecord
+  pub bodies : List ℕ
+
+unfoldable pub reading : List ℕ → ReadingRecord
 reading t = record {
   number = (text_refusal t).number;
   line = (text_refusal t).line;
   model = model_record (line_place t) (equations_in (kept t)) (starts_in (kept t));
   bodies = bodies_of (equations_in (kept t));
+}
+
+-- ---- what the code tells: a model that was read has a start
+abbrev pub model_told : Model → ModelRecord
+model_told m =
+    record { count = m.count; equations = m.equations; lines = m.lines; started = true; start = m.start }
+
+abbrev pub told : Result Reading Refusal → ReadingRecord
+told (Ok r) = record { number = 0; line = 0; model = model_told r.model; bodies = r.bodies }
+told (Err refusal) = record {
+  number = number_of refusal.reason;
+  line = refusal.line;
+  model = model_record (λ i. 0) [] [];
+  bodies = bodies_of [];
 }

@@ -1,78 +1,84 @@
-// What comes after the lines: the missing start, then 7 by line, then 8.
+// What comes after the lines: `OutOfPlace` where the start is missing, then `WrongInstance` by line, then
+// `WrongStart`.
 ghost use Rattle.std.specs.Prelude.{◌≡◌, ◌&&◌, ℕ, ◌≤◌, ◌<◌, leb, length, take, get_or};
 ghost use Rattle.meaning.specs.Ranges.{within};
 ghost use Rattle.formulas.specs.Bodies.{blank, ranges_of};
-ghost use Rattle.reading.specs.Contract.{is_start, FirstMisfit, Finishes};
+ghost use Rattle.reading.specs.Contract.{draft_told, is_start, FirstMisfit, Finishes};
+ghost use Rattle.reading.specs.Records.{model_told};
 
-use crate::{Model, Outcome, Start, stop};
+use crate::drafting::Draft;
+use crate::{Model, Start};
 use formulas::Equation;
+use refusals::{Reason, Refusal};
 
-// The number of the first equation whose instances do not fit; that of all equations, where all fit.
-fn first_misfit(bodies: &[u8], m: Model) -> usize
-    requires { (m.count ≤ 8) × (length m.equations ≡ 8) × (length bodies.now ≡ 2048) ×
-        ((j : ℕ) → j < m.count → (get_or m.equations j blank).length ≤ 256) }
-    ensures { FirstMisfit m bodies.now result }
+// The number of the first equation whose instances do not fit.
+fn first_misfit(bodies: &[u8; 2048], m: Model) -> Option<usize>
+    requires { (m.count ≤ 8) × ((j : ℕ) → j < m.count → (get_or m.equations j blank).length ≤ 256) }
+    ensures { FirstMisfit (model_told m) bodies.now result }
 {
-    let mut j = 0;
-    while j < m.count {
+    for j in 0..m.count {
         let e = m.equations[j];
         let first = 256 * j;
         let end = first + e.length;
         if !formulas::is_fitting(&bodies[first..end], e, m.equations, m.count) {
-            return j;
+            return Some(j);
         }
-        j += 1;
     }
-    j
+    None
 }
 
 // Whether there are as many arguments as e has parameters, each below its range.
 fn start_fits(s: Start, e: Equation) -> bool
     ensures { result ≡ leb s.count 4 && within (take s.count s.arguments) (ranges_of e) }
 {
-    let k = basics::smaller(basics::wide(e.k), 4);
-    let a = s.arguments;
-    let r = e.ranges;
-    let b0 = basics::implies(0 < k, a[0] < r[0]);
-    let b1 = basics::implies(1 < k, a[1] < r[1]);
-    let b2 = basics::implies(2 < k, a[2] < r[2]);
-    let b3 = basics::implies(3 < k, a[3] < r[3]);
-    let all = basics::and(b0, basics::and(b1, basics::and(b2, b3)));
-    basics::and(s.count == k, all)
+    let k = usize::from(e.k).min(4);
+    if s.count != k {
+        return false;
+    }
+    (0..k).all(|i| s.arguments[i] < e.ranges[i])
 }
 
 fn is_valid_start(m: Model) -> bool
-    requires { (m.count ≤ 8) × (length m.equations ≡ 8) }
-    ensures { result ≡ is_start m }
+    requires { m.count ≤ 8 }
+    ensures { result ≡ is_start (model_told m) }
 {
-    let s = m.start;
-    let i = basics::wide(s.equation);
-    if m.count <= i {
-        return false;
-    }
-    let e = m.equations[i];
-    start_fits(s, e)
+    let i = usize::from(m.start.equation);
+    i < m.count && start_fits(m.start, m.equations[i])
 }
 
 // The missing start stands at the line after the last.
-pub(crate) fn finish(bodies: &[u8], m: Model, line: usize) -> Outcome
-    requires { (m.count ≤ 8) × (length m.equations ≡ 8) × (length bodies.now ≡ 2048) ×
-        ((j : ℕ) → j < m.count → (get_or m.equations j blank).length ≤ 256) × (length m.lines ≡ 8) }
-    ensures { Finishes m bodies.now line result }
+pub(crate) fn finish(bodies: &[u8; 2048], draft: Draft, line: usize) -> Result<Model, Refusal>
+    requires { (draft.count ≤ 8) ×
+        ((j : ℕ) → j < draft.count → (get_or draft.equations j blank).length ≤ 256) }
+    ensures { Finishes (draft_told draft) bodies.now line result }
 {
-    if !m.started {
-        return stop(4, line);
+    let Draft {
+        count,
+        equations,
+        lines,
+        start,
+    } = draft;
+    let start = start.ok_or(Refusal {
+        reason: Reason::OutOfPlace,
+        line,
+    })?;
+    let model = Model {
+        count,
+        equations,
+        lines,
+        start,
+    };
+    if let Some(j) = first_misfit(bodies, model) {
+        return Err(Refusal {
+            reason: Reason::WrongInstance,
+            line: lines[j],
+        });
     }
-    let j = first_misfit(bodies, m);
-    if j < m.count {
-        return stop(7, m.lines[j]);
+    if !is_valid_start(model) {
+        return Err(Refusal {
+            reason: Reason::WrongStart,
+            line: start.line,
+        });
     }
-    if !is_valid_start(m) {
-        return stop(8, m.start.line);
-    }
-    Outcome {
-        number: 0,
-        line: 0,
-        model: m,
-    }
+    Ok(model)
 }

@@ -12,8 +12,7 @@ fn range_of(frame: &[u8], i: usize) -> u8
     requires { i < 4 }
     ensures { result ≡ range_of frame.now i }
 {
-    let k = basics::wide(basics::element(frame, 2));
-    if i < k {
+    if i < usize::from(basics::element(frame, 2)) {
         basics::element(frame, 3 + i)
     } else {
         1
@@ -26,54 +25,49 @@ pub(crate) fn equation_record(frame: &[u8], place: usize) -> Equation
     ensures { result ≡ equation_record place frame.now }
 {
     let k = basics::element(frame, 2);
-    let r0 = range_of(frame, 0);
-    let r1 = range_of(frame, 1);
-    let r2 = range_of(frame, 2);
-    let r3 = range_of(frame, 3);
-    let head = 3 + basics::wide(k);
+    let head = 3 + usize::from(k);
+    let ranges = [
+        range_of(frame, 0),
+        range_of(frame, 1),
+        range_of(frame, 2),
+        range_of(frame, 3),
+    ];
     Equation {
         sign: basics::element(frame, 1),
         k,
-        ranges: [r0, r1, r2, r3],
+        ranges,
         place: place + 2 * head,
-        length: basics::rest(frame.len(), head),
+        length: frame.len().saturating_sub(head),
     }
 }
 
 fn are_ranges(r: [u8; 4]) -> bool
     ensures { result ≡ all_ranges r }
 {
-    let a = formulas::is_range(r[0]);
-    let b = formulas::is_range(r[1]);
-    let c = formulas::is_range(r[2]);
-    let d = formulas::is_range(r[3]);
-    basics::and(a, basics::and(b, basics::and(c, d)))
+    r.iter().all(|r| formulas::is_range(*r))
 }
 
 // Whether a frame of `size` bytes with this record has a valid head.
 pub(crate) fn is_valid_head(size: usize, e: Equation) -> bool
     ensures { result ≡ is_head size e }
 {
-    let head = 3 + basics::wide(e.k);
-    let ranges = e.ranges;
-    let r = are_ranges(ranges);
-    basics::and(
-        head <= size,
-        basics::and(e.sign <= 1, basics::and(e.k <= 4, r)),
-    )
+    let head = 3 + usize::from(e.k);
+    head <= size && e.sign <= 1 && e.k <= 4 && are_ranges(e.ranges)
 }
 
 pub(crate) fn start_record(frame: &[u8], line: usize) -> Start
     ensures { result ≡ start_record line frame.now }
 {
-    let a0 = basics::element(frame, 2);
-    let a1 = basics::element(frame, 3);
-    let a2 = basics::element(frame, 4);
-    let a3 = basics::element(frame, 5);
+    let arguments = [
+        basics::element(frame, 2),
+        basics::element(frame, 3),
+        basics::element(frame, 4),
+        basics::element(frame, 5),
+    ];
     Start {
         line,
         equation: basics::element(frame, 1),
-        count: basics::rest(frame.len(), 2),
-        arguments: [a0, a1, a2, a3],
+        count: frame.len().saturating_sub(2),
+        arguments,
     }
 }

@@ -1,49 +1,48 @@
-// The refusal of a frame, after `count` equations and perhaps the start.
+// Whether a frame is refused, and why, after `count` equations and perhaps the start.
 ghost use Rattle.std.specs.Prelude.{◌≡◌, not};
+ghost use Rattle.reading.specs.Contract.{number_in};
 ghost use Rattle.reading.specs.Reading.{equation_refusal, start_refusal, frame_refusal};
 
 use crate::heads::{equation_record, is_valid_head};
+use refusals::Reason;
 
-fn equation_refusal(frame: &[u8], count: usize, started: bool) -> u8
-    ensures { result ≡ equation_refusal count (not started) frame.now }
+fn judge_equation(frame: &[u8], count: usize, started: bool) -> Result<(), Reason>
+    ensures { number_in result ≡ equation_refusal count (not started) frame.now }
 {
-    if started {
-        return 4;
-    }
-    if 8 <= count {
-        return 4;
+    if started || 8 <= count {
+        return Err(Reason::OutOfPlace);
     }
     let e = equation_record(frame, 0);
     if !is_valid_head(frame.len(), e) {
-        return 5;
+        return Err(Reason::WrongHead);
     }
-    let head = 3 + basics::wide(e.k);
+    let head = 3 + usize::from(e.k);
     if !formulas::is_body(&frame[head..], e) {
-        return 6;
+        return Err(Reason::NoFormula);
     }
-    0
+    Ok(())
 }
 
-fn start_refusal(frame: &[u8], count: usize, started: bool) -> u8
-    ensures { result ≡ start_refusal count (not started) frame.now }
+fn judge_start(frame: &[u8], count: usize, started: bool) -> Result<(), Reason>
+    ensures { number_in result ≡ start_refusal count (not started) frame.now }
 {
-    if started {
-        return 4;
+    if started || count == 0 {
+        return Err(Reason::OutOfPlace);
     }
-    if count == 0 {
-        return 4;
+    if frame.len() < 2 {
+        return Err(Reason::WrongHead);
     }
-    if frame.len() < 2 { 5 } else { 0 }
+    Ok(())
 }
 
-pub(crate) fn frame_refusal(frame: &[u8], count: usize, started: bool) -> u8
-    ensures { result ≡ frame_refusal count (not started) frame.now }
+// Kinds as numbers: they are the bytes of the format.
+pub(crate) fn judge_frame(frame: &[u8], count: usize, started: bool) -> Result<(), Reason>
+    ensures { number_in result ≡ frame_refusal count (not started) frame.now }
 {
-    let code = basics::element(frame, 0);
-    match code {
-        1 => equation_refusal(frame, count, started),
-        2 => start_refusal(frame, count, started),
-        3 => 0,
-        _ => 4,
+    match basics::element(frame, 0) {
+        1 => judge_equation(frame, count, started),
+        2 => judge_start(frame, count, started),
+        3 => Ok(()),
+        _ => Err(Reason::OutOfPlace),
     }
 }

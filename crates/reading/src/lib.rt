@@ -7,15 +7,17 @@ mod heads;
 mod judging;
 
 ghost use Rattle.std.specs.Prelude.{◌≡◌, replicate};
-ghost use Rattle.reading.specs.Contract.{LinesRead, stopped};
-ghost use Rattle.reading.specs.Records.{reading};
+ghost use Rattle.reading.specs.Contract.{LinesRead};
+ghost use Rattle.reading.specs.Records.{told, reading};
 
-use drafting::{keep_body, no_model, with_frame};
+use drafting::{Draft, keep_body};
 use ending::finish;
 use formulas::Equation;
-use judging::frame_refusal;
+use frames::Frame;
+use judging::judge_frame;
+use refusals::{Reason, Refusal};
 
-// A start's line, its equation, how many arguments it has, and the first four of them.
+// A start's line, its equation, how many arguments it has, and the first four of them: fixed memory, no heap.
 #[derive(Clone, Copy)]
 pub struct Start {
     pub line: usize,
@@ -24,87 +26,55 @@ pub struct Start {
     pub arguments: [u8; 4],
 }
 
-// The first `count` of `equations` are the equations so far, the first `count` of `lines` are theirs; `start`
-// is the start, where `started`.
+// The first `count` of `equations` are the equations, the first `count` of `lines` are theirs. Kept as two
+// lists: `model_record` has two, and what solves a model takes the equations alone.
 #[derive(Clone, Copy)]
 pub struct Model {
     pub count: usize,
     pub equations: [Equation; 8],
     pub lines: [usize; 8],
-    pub started: bool,
     pub start: Start,
 }
 
-// Number and line are 0 where the model was read; the body of equation j stands from 256 * j on of `bodies`.
+// The body of equation j stands from 256 * j on of `bodies`.
 #[derive(Clone, Copy)]
 pub struct Reading {
-    pub number: u8,
-    pub line: usize,
     pub model: Model,
     pub bodies: [u8; 2048],
 }
 
-// What the lines give: a refusal, or a model.
-#[derive(Clone, Copy)]
-struct Outcome {
-    number: u8,
-    line: usize,
-    model: Model,
-}
-
-fn stop(number: u8, line: usize) -> Outcome
-    ensures { result ≡ stopped number line }
-{
-    Outcome {
-        number,
-        line,
-        model: no_model(),
-    }
-}
-
 // The lines of a text, from the top; the bodies of its equations are kept.
-fn read_lines(text: &[u8], bodies: &mut [u8]) -> Outcome
+fn read_lines(text: &[u8], bodies: &mut [u8; 2048]) -> Result<Model, Refusal>
     requires { bodies.old ≡ replicate 2048 0 }
     ensures { LinesRead text.now bodies.new result }
 {
     if 32768 < text.len() {
-        return stop(1, 0);
+        return Err(Refusal::from(Reason::TextTooLong));
     }
-    let mut m = no_model();
+    let mut draft = Draft::new();
     let mut at = 0;
     let mut line = 1;
+    // A while: the step is the length of the line.
     while at < text.len() {
         let f = frames::frame_at(text, at);
-        if f.number != 0 {
-            return stop(f.number, line);
-        }
-        let bytes = f.bytes;
-        let frame = &bytes[..f.size];
-        let number = frame_refusal(frame, m.count, m.started);
-        if number != 0 {
-            return stop(number, line);
-        }
-        keep_body(bodies, frame, m.count);
-        m = with_frame(m, frame, line, at);
+        let Frame { bytes, size } = f.frame.map_err(|reason| Refusal { reason, line })?;
+        let frame = &bytes[..size];
+        judge_frame(frame, draft.count, draft.start.is_some()).map_err(|reason| Refusal {
+            reason,
+            line,
+        })?;
+        keep_body(bodies, frame, draft.count);
+        draft = draft.with_frame(frame, line, at);
         at = f.end + 1;
         line += 1;
     }
-    finish(bodies, m, line)
+    finish(bodies, draft, line)
 }
 
-pub fn read_model(text: &[u8]) -> Reading
-    ensures { result ≡ reading text.now }
+pub fn read_model(text: &[u8]) -> Result<Reading, Refusal>
+    ensures { told result ≡ reading text.now }
 {
-    let mut bodies = [0u8; 2048];
-    let r = read_lines(text, &mut bodies);
-    let model = r.model;
-    if r.number != 0 {
-        bodies = [0; 2048];
-    }
-    Reading {
-        number: r.number,
-        line: r.line,
-        model,
-        bodies,
-    }
+    let mut bodies = [0; 2048];
+    let model = read_lines(text, &mut bodies)?;
+    Ok(Reading { model, bodies })
 }

@@ -2,13 +2,17 @@
 -- So the tests that the code makes of the record are those of the definition, and the text is cut at its place.
 use Prim.Native.Nat.{ℕ, ◌+◌, ◌-◌, ◌*◌, ◌≤◌, ◌<◌, min}
 use native.Mathlib.Omega.{arith}
-use native.Mathlib.Decide.{dec_le}
 use mathlib.Core.Path.{◌≡◌, refl, sym, ap, subst, ◌∙◌}
 use mathlib.Core.Bool.{Bool, true, false, cond}
 use mathlib.Core.List.{List}
-use lib.Dec.{eqb, leb}
+use lib.Dec.{leb}
 use lib.ListN.{length, get_or, length-drop}
-use borrow.Author.Tests.{eq-eqb, ne_eqb, lt-leb, leb-true}
+use borrow.Author.Tests.{eq-eqb, le-leb}
+use Rattle.std.specs.Prelude.{Result, Ok, Err}
+use Rattle.refusals.specs.declared.Reason.{Reason}
+use Rattle.refusals.specs.declared.Reason.TheVariants.{NoLine, NoFormula, WrongInstance}
+use Rattle.refusals.specs.declared.Refusal.{Refusal as WhyNot}
+use Rattle.refusals.specs.Numbers.{number_of}
 use Rattle.meaning.specs.Ranges.{signatures}
 use Rattle.frames.specs.Lines.{line_place}
 use Rattle.frames.specs.Frames.{Frame, frames}
@@ -17,10 +21,11 @@ use Rattle.formulas.specs.Bodies.{blank, signatures_of, is_body, is_fitting}
 use Rattle.reading.specs.declared.Reading.{Reading}
 use Rattle.reading.specs.Equations.{ranges_in}
 use Rattle.reading.specs.Models.{equations_in, model_of}
-use Rattle.reading.specs.Reading.{Refusal, refused, unless, text_refusal}
-use Rattle.reading.specs.Records.{equation_record, kept, reading}
+use Rattle.reading.specs.Reading.{Refusal, refused, text_refusal}
+use Rattle.reading.specs.Records.{ReadingRecord, equation_record, kept, reading, model_told, told}
 use Rattle.reading.proofs.Drafts.{EquationSound, Drafted, count_is}
 use Rattle.reading.proofs.Finishing as finishing
+use Rattle.reading.proofs.LineNumbers.{long_text_one}
 use Rattle.reading.proofs.WellFormed.{text_passed, parameters, reading_drafted}
 use Rattle.replacer.specs.Replaced.{equation_frame, replaced_text}
 use Rattle.replacer.specs.Standing.{Standing}
@@ -30,40 +35,46 @@ use Rattle.replacer.proofs.Result.{bytes_there, line_there, head_there, place_th
 use Rattle.replacer.proofs.Result.{result_length, reaches}
 use Rattle.replacer.specs.Judged.{side_refusal}
 use Rattle.replacer.proofs.Judged.{result_judged}
-use Rattle.replacer.specs.Contract.{side_number}
+use Rattle.replacer.specs.Contract.{side_judged}
 
--- ---- a number with the line that it is told with: 1 is of the whole text, the others of the equation's line
-abbrev located : ℕ → ℕ → Refusal
-located n line = cond (eqb n 0) (refused 0 0) (cond (eqb n 1) (refused 1 0) (refused n line))
+-- ---- why a right side is refused, with the line that it is told with
+abbrev located : Result (Unit {0}) Reason → ℕ → Refusal
+located (Ok _) line = refused 0 0
+located (Err reason) line = refused (number_of reason) line
 
-tests_located : (a b c d : Bool) (line : ℕ)
-    → cond a (cond b (cond c (cond d (refused 0 0) (refused 7 line)) (refused 6 line)) (refused 3 line)) (refused 1 0)
-    ≡ located (unless a 1 (unless b 3 (unless c 6 (unless d 7 0)))) line
-tests_located true true true true line = refl
-tests_located true true true false line = refl
-tests_located true true false d line = refl
-tests_located true false c d line = refl
-tests_located false b c d line = refl
+tests_located : (b c d : Bool) (line : ℕ)
+    → cond b (cond c (cond d (refused 0 0) (refused 7 line)) (refused 6 line)) (refused 3 line)
+    ≡ located (cond b (cond c (cond d (Ok tt) (Err WrongInstance)) (Err NoFormula)) (Err NoLine)) line
+tests_located true true true line = refl
+tests_located true true false line = refl
+tests_located true false d line = refl
+tests_located false c d line = refl
 
 -- a refusal of the old text is the one that is told
-pub same_refusal : (t : List ℕ) {r : Reading} → r ≡ reading t → refused r.number r.line ≡ text_refusal t
+pub same_refusal : (t : List ℕ) (x : WhyNot) → told (Err x) ≡ reading t → refused (number_of x.reason) x.line ≡ text_refusal t
 unfolding reading
-same_refusal t is = ap (λ (x : Reading). refused x.number x.line) is
+same_refusal t x is = ap (λ (r : ReadingRecord). refused r.number r.line) is
 
--- ---- r is what was read of the text t, and it is not refused
+-- ---- r is what was read of the text t
 pub record ReadAs (t : List ℕ) (r : Reading) : Type 0 where
-  pub is : r ≡ reading t
-  pub none : r.number ≡ 0
+  pub is : told (Ok r) ≡ reading t
+
+pub read_as : {t : List ℕ} {r : Reading} → told (Ok r) ≡ reading t → ReadAs t r
+read_as is = record { is = is }
 
 module _ {t : List ℕ} {r : Reading} (a : ReadAs t r) where
   pub read : (text_refusal t).number ≡ 0
-  read = sym (ap (λ (x : Refusal). x.number) (same_refusal t a.is)) ∙ a.none
+  unfolding reading
+  read = sym (ap (λ (x : ReadingRecord). x.number) a.is)
 
-  drafted : Drafted (line_place t) (frames t).all r.model r.bodies
+  drafted : Drafted (line_place t) (frames t).all (model_told r.model) r.bodies
   drafted =
       let all : kept t ≡ (frames t).all = rw (eq-eqb (text_refusal t).number 0 read) refl in
-      rw a.is (subst (λ (fs : List Frame). Drafted (line_place t) fs (reading t).model (reading t).bodies) all
-      (reading_drafted t))
+      let same : (fs : List Frame) → Drafted (line_place t) fs (reading t).model (reading t).bodies
+      → Drafted (line_place t) fs (model_told r.model) r.bodies =
+      λ fs d. subst (λ (x : ReadingRecord). Drafted (line_place t) fs x.model x.bodies) (sym a.is) d in
+      same (frames t).all
+      (subst (λ (fs : List Frame). Drafted (line_place t) fs (reading t).model (reading t).bodies) all (reading_drafted t))
 
   pub count_there : r.model.count ≡ length (equations_in (frames t).all)
   count_there = count_is drafted
@@ -71,20 +82,17 @@ module _ {t : List ℕ} {r : Reading} (a : ReadAs t r) where
   pub few : r.model.count ≤ 8
   few = finishing.few drafted
 
-  pub eight_equations : length r.model.equations ≡ 8
-  eight_equations = finishing.eight_equations drafted
-
-  pub eight_lines : length r.model.lines ≡ 8
-  eight_lines = finishing.eight_lines drafted
-
 -- and equation e is there
 pub record Named (t : List ℕ) (r : Reading) (e : ℕ) : Type 0 where
-  pub read_as : ReadAs t r
+  pub reads : ReadAs t r
   pub within : e < r.model.count
+
+pub named : {t : List ℕ} {r : Reading} {e : ℕ} → told (Ok r) ≡ reading t → e < r.model.count → Named t r e
+named is within = record { reads = read_as is; within = within }
 
 module _ {t : List ℕ} {r : Reading} {e : ℕ} (b : Named t r e) where
   abbrev a : ReadAs t r
-  a = b.read_as
+  a = b.reads
 
   abbrev h : e < r.model.count
   h = b.within
@@ -118,6 +126,9 @@ module _ {t : List ℕ} {r : Reading} {e : ℕ} (b : Named t r e) where
   pub digits_within : 2 * equation.length ≤ length t
   digits_within = omega (arith, size_is, reaches there)
 
+  pub in_eight : e < 8
+  in_eight = omega (arith, few a, h)
+
   pub few_parameters : equation.k ≤ 4
   unfolding equation_record
   few_parameters =
@@ -126,71 +137,48 @@ module _ {t : List ℕ} {r : Reading} {e : ℕ} (b : Named t r e) where
       omega (arith, k, ap (λ (x : Equation). x.k) record_is)
 
   -- ---- with the new right side
-  module _ (side : List ℕ) (size : ℕ) (sized : size ≡ length t - 2 * equation.length + 2 * min (length side) 16385) where
+  module _ (side : List ℕ) (added : ℕ) (cut : added ≡ min (length side) 16385) where
     abbrev result : List ℕ
     result = replaced_text t e side
+
+    abbrev pub size : ℕ
+    size = length t - 2 * equation.length + 2 * added
 
     -- how long the resulting text is, where it is not too long
     pub exact : size ≤ 32768 → size ≡ length result
     exact short =
-        omega (arith, sized, size_is, result_length there side, reaches there)
+        omega (arith, cut, size_is, result_length there side, reaches there)
 
-    same_test : leb size 32768 ≡ leb (length result) 32768
-    same_test = elim (dec_le size 32768) [
-      | yes short ↦ ap (λ (n : ℕ). leb n 32768) (exact short)
-      | no long ↦
-          lt-leb size 32768 (omega arith) ∙
-          sym (lt-leb (length result) 32768 (omega (arith, sized, size_is, result_length there side, reaches there)))
-    ]
+    -- a text that is too long
+    pub long_told : 32768 < size → text_refusal result ≡ refused 1 0
+    long_told long =
+        long_text_one result (omega (arith, cut, size_is, result_length there side, reaches there))
 
-    -- the number, told by the frame
-    abbrev others_asked : ℕ
-    others_asked =
-        let f = bytes_there there in
-        unless (leb (head_there there + length side) 256) 3
-        (unless (is_body side (ranges_in f)) 6
-        (unless (is_fitting (signatures (model_of (frames t).all)) side (ranges_in f)) 7
-        0))
-
-    abbrev asked : ℕ
-    asked = unless (leb (length result) 32768) 1 others_asked
-
-    number_asked : side_number size side equation (signatures_of r.model.equations r.model.count) ≡ asked
-    unfolding side_number equation_record
-    number_asked = rw (same_test, finishing.signatures_same (drafted a), record_is) refl
-
-    refusal_asked : side_refusal t e side ≡ located asked (line_there there)
-    unfolding side_refusal
-    refusal_asked =
+    -- and one that is not: the right side is judged as by the frame
+    judged_here : Result (Unit {0}) Reason
+    judged_here =
         let ranges = ranges_in (bytes_there there) in
-        rw there.frame_is (tests_located (leb (length result) 32768) (leb (head_there there + length side) 256)
-        (is_body side ranges) (is_fitting (signatures (model_of (frames t).all)) side ranges) (line_there there))
+        cond (leb (head_there there + length side) 256)
+        (cond (is_body side ranges)
+        (cond (is_fitting (signatures (model_of (frames t).all)) side ranges) (Ok tt) (Err WrongInstance))
+        (Err NoFormula))
+        (Err NoLine)
 
-    module _ (small : Small side) {n : ℕ}
-        (number : n ≡ side_number size side equation (signatures_of r.model.equations r.model.count)) where
-      -- the refusal of the resulting text
-      told : text_refusal result ≡ located n (line_there there)
-      told =
-          result_judged (read a) there side small ∙ refusal_asked ∙
-          ap (λ (m : ℕ). located m (line_there there)) (sym (number ∙ number_asked))
+    judged_same : side_judged side equation (signatures_of r.model.equations r.model.count) ≡ judged_here
+    unfolding equation_record judged_here
+    judged_same = rw (finishing.signatures_same (drafted a), record_is) refl
 
-      pub one_told : n ≡ 1 → text_refusal result ≡ refused 1 0
-      one_told one = told ∙ rw one refl
+    refusal_located : size ≤ 32768 → side_refusal t e side ≡ located judged_here (line_there there)
+    unfolding side_refusal judged_here
+    refusal_located short =
+        let ranges = ranges_in (bytes_there there) in
+        rw (there.frame_is, le-leb (length result) 32768 (omega (arith, exact short)))
+        (tests_located (leb (head_there there + length side) 256) (is_body side ranges)
+        (is_fitting (signatures (model_of (frames t).all)) side ranges) (line_there there))
 
-      pub line_told : (n ≡ 0 → ⊥) → (n ≡ 1 → ⊥) → text_refusal result ≡ refused n (get_or r.model.lines e 0)
-      line_told zero one = told ∙ rw (ne_eqb n 0 zero, ne_eqb n 1 one, line_is) refl
-
-      pub none_told : n ≡ 0 → text_refusal result ≡ refused 0 0
-      none_told zero = told ∙ rw zero refl
-
-      -- where the text is not too long, `size` is how long it is
-      pub size_told : n ≡ 0 → size ≡ length result
-      size_told zero = exact (short (leb size 32768) refl (sym (number ∙ same) ∙ zero))
-        where
-          same : side_number size side equation (signatures_of r.model.equations r.model.count)
-              ≡ unless (leb size 32768) 1 (others_asked)
-          same = number_asked ∙ ap (λ (b : Bool). unless b 1 others_asked) (sym same_test)
-
-          short : (b : Bool) → leb size 32768 ≡ b → unless b 1 others_asked ≡ 0 → size ≤ 32768
-          short true p q = leb-true size 32768 p
-          short false p q = absurd (omega arith)
+    pub judged_told : Small side → size ≤ 32768 → {j : Result (Unit {0}) Reason}
+        → j ≡ side_judged side equation (signatures_of r.model.equations r.model.count)
+        → text_refusal result ≡ located j (get_or r.model.lines e 0)
+    judged_told small short {j} judged =
+        result_judged (read a) there side small ∙ refusal_located short ∙
+        rw (line_is, judged ∙ judged_same) refl

@@ -7,7 +7,6 @@ pub mod Judged
 pub mod Theorems
 pub mod Samples
 pub mod Letters
-pub mod SideNumbers
 pub mod PartsPut
 pub mod Known
 pub mod Replied

@@ -1,20 +1,23 @@
 -- What the contracts of the inner functions say; no word of the documents is defined here.
 -- They speak of the structs that the code has; that these are those of the text is shown in proofs/Known.
-use Rattle.std.specs.Prelude.{ℕ, ◌+◌, ◌/◌, min, ◌≡◌, List, leb, length, take}
+use Rattle.std.specs.Prelude.{ℕ, ◌+◌, ◌/◌, min, ◌≡◌, cond, List, Result, Ok, Err, leb, length, take}
+use Rattle.refusals.specs.declared.Reason.{Reason}
+use Rattle.refusals.specs.declared.Reason.TheVariants.{NoLine, NoFormula, WrongInstance}
 use Rattle.digits.specs.Digits.{bytes_of}
 use Rattle.formulas.specs.declared.Equation.{Equation}
 use Rattle.formulas.specs.Bodies.{ranges_of, is_body, is_fitting}
-use Rattle.reading.specs.Reading.{unless}
 use Rattle.replacer.specs.Printed.{decimal}
 
--- the number of the refusal that a text of `size` characters gets by the new right side of the equation e
-unfoldable pub side_number : ℕ → List ℕ → Equation → List (List ℕ) → ℕ
-side_number size side e declared =
-    unless (leb size 32768) 1
-    (unless (leb (3 + e.k + length side) 256) 3
-    (unless (is_body side (ranges_of e)) 6
-    (unless (is_fitting declared side (ranges_of e)) 7
-    0)))
+-- why a new right side of the equation e is refused, the first of 3, 6 and 7, if it is
+abbrev pub side_judged : List ℕ → Equation → List (List ℕ) → Result (Unit {0}) Reason
+side_judged side e declared =
+    cond (leb (3 + e.k + length side) 256)
+    (cond (is_body side (ranges_of e))
+    (cond (is_fitting declared side (ranges_of e))
+    (Ok tt)
+    (Err WrongInstance))
+    (Err NoFormula))
+    (Err NoLine)
 
 -- ---- the words of the command
 

@@ -9,61 +9,39 @@ use crate::replace;
 fn is_number(word: &[u8]) -> bool
     ensures { result ≡ is_number word.now }
 {
-    if word.len() == 0 {
-        return false;
-    }
-    let mut i: usize = 0;
-    while i < word.len() {
-        if word[i] < 48 {
-            return false;
-        }
-        if 57 < word[i] {
-            return false;
-        }
-        i += 1;
-    }
-    true
+    !word.is_empty() && word.iter().all(|c| c.is_ascii_digit())
 }
 
 // Whether a word is bytes in hexadecimal, two digits each.
 fn is_bytes(word: &[u8]) -> bool
     ensures { result ≡ is_bytes word.now }
 {
-    basics::and(frames::all_digits(word), word.len() % 2 == 0)
+    frames::all_digits(word) && word.len() % 2 == 0
 }
 
 // The number that decimal digits say, or 8 where it is greater: no equation has such a number.
+// Kept as a number: the definition `named_by` says 8, and `named_same` that any number over 7 does the same.
 fn named_by(word: &[u8]) -> usize
     ensures { result ≡ named_by word.now }
 {
     let mut n: usize = 0;
-    let mut i: usize = 0;
-    while i < word.len() {
-        let digit = basics::rest(basics::wide(word[i]), 48);
-        n = basics::smaller(10 * n + digit, 8);
-        i += 1;
+    for c in word {
+        let digit = usize::from(c.saturating_sub(b'0'));
+        n = (10 * n + digit).min(8);
     }
     n
 }
 
 // Puts the bytes that a word says into a list, as many as it holds, and gives their number.
+// By index: `digits::byte` asks for it, and an iterator over the places would have to count it beside them.
 fn decode(word: &[u8], list: &mut [u8]) -> usize
     ensures { Decodes word.now (length list.old) result list.new }
 {
-    let count = basics::smaller(word.len() / 2, list.len());
-    let mut i: usize = 0;
-    while i < count {
+    let count = (word.len() / 2).min(list.len());
+    for i in 0..count {
         list[i] = digits::byte(word, i);
-        i += 1;
     }
     count
-}
-
-// One byte more than a right side may have for its text not to be too long.
-fn side_buffer() -> [u8; 16385]
-    ensures { 16385 ≡ length result }
-{
-    [0; 16385]
 }
 
 // Writes what the command prints for a text and its two words, and gives the number of bytes written: the
@@ -76,13 +54,12 @@ pub fn print_replacement(text: &[u8], number: &[u8], side: &[u8], out: &mut [u8]
     if out.len() < 32768 {
         return 0;
     }
-    if !is_number(number) {
+    if !is_number(number) || !is_bytes(side) {
         return 0;
     }
-    if !is_bytes(side) {
-        return 0;
-    }
-    let mut list = side_buffer();
+    // One byte more than a right side may have for its text not to be too long.
+    // A list with its count beside it: memory is fixed, and `decode` fills as much as the word says.
+    let mut list = [0; 16385];
     let count = decode(side, &mut list);
     let reply = replace(text, named_by(number), &list[..count], out);
     writing::show(reply, out)

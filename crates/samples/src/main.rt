@@ -8,10 +8,64 @@
 // README.md beside this folder says what the texts are and how the expected output was made.
 #![tactic(auto)]
 
-ghost use Rattle.std.specs.Prelude.{◌≡◌, length};
-
 use std::io;
 use std::io::Input;
+
+// As many bytes as the longest text of a model takes.
+const MODEL_SIZE: usize = 4117;
+
+// As many bytes as the longest text of a model has.
+const TEXT_SIZE: usize = 32768;
+
+// As many bytes as the words may have.
+const WORDS_SIZE: usize = 514;
+
+// As many bytes as a head can say that a text has.
+const LARGEST_SIZE: usize = 65536;
+
+// What is to be done with a text.
+#[derive(Clone, Copy)]
+enum Kind {
+    Check,
+    Translate,
+    Replace,
+    Find,
+    Solve,
+}
+
+// A text of any other kind is checked.
+impl From<u8> for Kind {
+    fn from(byte: u8) -> Kind {
+        match byte {
+            1 => Kind::Translate,
+            2 => Kind::Replace,
+            3 => Kind::Find,
+            4 => Kind::Solve,
+            _ => Kind::Check,
+        }
+    }
+}
+
+// What a head says of the text behind it; `count` is how many bytes a new right side has.
+#[derive(Clone, Copy)]
+struct Head {
+    kind: Kind,
+    count: u8,
+    size: u16,
+}
+
+// Reads a head; none where there is no text left.
+fn read_head(rt: &impl Input) -> io::Result<Option<Head>> {
+    let mut line = [0; 9];
+    if streams::read_full(rt, &mut line)? < line.len() {
+        return Ok(None);
+    }
+    Ok(Some(Head {
+        kind: Kind::from(digits::byte(&line, 0)),
+        count: digits::byte(&line, 1),
+        size: u16::from_be_bytes([digits::byte(&line, 2), digits::byte(&line, 3)]),
+    }))
+}
 
 // Reads a text as long as the buffer and prints its answer.
 fn answer(rt: &(impl Input + Print), buffer: &mut [u8]) -> io::Result<()> {
@@ -22,38 +76,23 @@ fn answer(rt: &(impl Input + Print), buffer: &mut [u8]) -> io::Result<()> {
     rt.write_all(b"\n")
 }
 
-// As many bytes as the longest text of a model takes.
-fn model_buffer() -> [u8; 4117]
-    ensures { 4117 ≡ length result }
-{
-    [0; 4117]
-}
-
 // Reads a text as long as the buffer and prints its translation.
 fn translation(rt: &(impl Input + Print), buffer: &mut [u8]) -> io::Result<()> {
     let n = streams::read_full(rt, buffer)?;
-    let mut out = model_buffer();
+    let mut out = [0u8; MODEL_SIZE];
     let written = translator::print_translation(&buffer[..n], &mut out);
     rt.write_all(&out[..written])?;
     rt.write_all(b"\n")
 }
 
-// As many bytes as the longest text of a model has.
-fn text_buffer() -> [u8; 32768]
-    ensures { 32768 ≡ length result }
-{
-    [0; 32768]
-}
-
 // Prints a text with a right side replaced, as the words say: three digits for the equation, the right side
 // and 0a.
 fn print_edited(rt: &impl Print, text: &[u8], words: &[u8]) -> io::Result<()> {
-    if words.len() < 4 {
+    let [first, second, third, side @ .., _] = words else {
         return Ok(());
-    }
-    let end = words.len() - 1;
-    let mut out = text_buffer();
-    let written = replacer::print_replacement(text, &words[..3], &words[3..end], &mut out);
+    };
+    let mut out = [0u8; TEXT_SIZE];
+    let written = replacer::print_replacement(text, &[*first, *second, *third], side, &mut out);
     rt.write_all(&out[..written])?;
     rt.write_all(b"\n")
 }
@@ -65,75 +104,32 @@ fn replacement(rt: &(impl Input + Print), buffer: &mut [u8], words: &mut [u8]) -
     print_edited(rt, &buffer[..n], &words[..got])
 }
 
-// As many bytes as the words may have.
-fn words_buffer() -> [u8; 514]
-    ensures { 514 ≡ length result }
-{
-    [0; 514]
-}
-
 // Reads the words with a right side of `count` bytes, and edits.
 fn replacement_of(rt: &(impl Input + Print), buffer: &mut [u8], count: u8) -> io::Result<()> {
-    let mut words = words_buffer();
-    let size = 4 + 2 * basics::wide(count);
+    let mut words = [0u8; WORDS_SIZE];
+    let size = 4 + 2 * usize::from(count);
     replacement(rt, buffer, &mut words[..size])
 }
 
-// Reads a text of n bytes, or of as many as the buffer holds, and does what its kind says.
-fn answer_first(
-    rt: &(impl Input + Print),
-    buffer: &mut [u8],
-    n: usize,
-    kind: u8,
-    count: u8,
-) -> io::Result<()> {
-    let m = basics::smaller(n, buffer.len());
-    if kind == 1 {
-        translation(rt, &mut buffer[..m])
-    } else if kind == 2 {
-        replacement_of(rt, &mut buffer[..m], count)
-    } else if kind == 3 {
-        sampling::find(rt, &mut buffer[..m])
-    } else if kind == 4 {
-        sampling::solve(rt, &mut buffer[..m])
-    } else {
-        answer(rt, &mut buffer[..m])
+// Reads a text as long as its head says, and does what that says with it.
+fn answer_next(rt: &(impl Input + Print), head: Head) -> io::Result<()> {
+    let mut largest = [0u8; LARGEST_SIZE];
+    let buffer = &mut largest[..usize::from(head.size)];
+    match head.kind {
+        Kind::Check => answer(rt, buffer),
+        Kind::Translate => translation(rt, buffer),
+        Kind::Replace => replacement_of(rt, buffer, head.count),
+        Kind::Find => sampling::find(rt, buffer),
+        Kind::Solve => sampling::solve(rt, buffer),
     }
-}
-
-// As many bytes as a head can say that a text has.
-fn large_buffer() -> [u8; 65536]
-    ensures { 65536 ≡ length result }
-{
-    [0; 65536]
-}
-
-// One text; false where there is none left.
-fn turn(rt: &(impl Input + Print)) -> io::Result<bool> {
-    let mut head = [0; 9];
-    let got = streams::read_full(rt, &mut head)?;
-    if got < 9 {
-        return Ok(false);
-    }
-    let high = digits::byte(&head, 2);
-    let low = digits::byte(&head, 3);
-    let size = basics::wide(high) * 256 + basics::wide(low);
-    let mut buffer = large_buffer();
-    answer_first(
-        rt,
-        &mut buffer,
-        size,
-        digits::byte(&head, 0),
-        digits::byte(&head, 1),
-    )?;
-    Ok(true)
 }
 
 fn main(rt: HostRuntime) -> io::Result<()> {
     for _ in 0..100000 {
-        if !turn(&rt)? {
+        let Some(head) = read_head(&rt)? else {
             return Ok(());
-        }
+        };
+        answer_next(&rt, head)?;
     }
     Ok(())
 }

@@ -4,7 +4,7 @@
 // line.
 #![tactic(auto)]
 
-ghost use Rattle.std.specs.Prelude.{◌≡◌, ◌≤◌, ◌<◌, length, IfOk};
+ghost use Rattle.std.specs.Prelude.{◌≡◌, ◌≤◌, length, IfOk};
 
 use std::io;
 use std::io::Input;
@@ -18,11 +18,10 @@ pub fn answer_buffer() -> [u8; 7693]
 }
 
 // As many words as may be lent, two more than a list has.
-fn words_lent() -> [u32; 514]
-    ensures { 514 ≡ length result }
-{
-    [0xffffffff; 514]
-}
+const WORDS_LENT: usize = 514;
+
+// What a word that is lent holds before.
+const LENT: u32 = 0xffffffff;
 
 // Reads a line of four digits that says how many words there are; where it says more than may be lent, as
 // many as may.
@@ -31,29 +30,25 @@ fn read_count(rt: &impl Input) -> io::Result<usize>
 {
     let mut line = [0; 5];
     read_full(rt, &mut line)?;
-    let high = basics::wide(digits::byte(&line, 0));
-    let low = basics::wide(digits::byte(&line, 1));
-    Ok(basics::smaller(high * 256 + low, 514))
+    let count = u16::from_be_bytes([digits::byte(&line, 0), digits::byte(&line, 1)]);
+    Ok(usize::from(count).min(WORDS_LENT))
 }
 
-// Prints a number as a line of small digits, which fills the buffer: the last of them where it has more.
-fn print_line(rt: &impl Print, number: u64, line: &mut [u8]) -> io::Result<()>
-    requires { 0 < length line.old }
+// Prints a number as a line of N characters, small digits and 0a: the last digits where it has more.
+fn print_line<const N: usize>(rt: &impl Print, number: u64) -> io::Result<()>
+    requires { N ≤ 17 }
 {
+    let mut line = [b'\n'; N];
     let mut left = number;
-    let mut i = line.len() - 1;
-    line[i] = 10;
-    while 0 < i {
-        i -= 1;
-        line[i] = digits::digit((left % 16) as u8);
+    for place in line.iter_mut().rev().skip(1) {
+        *place = digits::digit((left % 16) as u8);
         left /= 16;
     }
-    rt.write_all(line)
+    rt.write_all(&line)
 }
 
 fn print_word(rt: &impl Print, word: u32) -> io::Result<()> {
-    let mut line = [0; 9];
-    print_line(rt, u64::from(word), &mut line)
+    print_line::<9>(rt, u64::from(word))
 }
 
 fn print_words(rt: &impl Print, words: &[u32]) -> io::Result<()> {
@@ -65,15 +60,14 @@ fn print_words(rt: &impl Print, words: &[u32]) -> io::Result<()> {
 
 // Finds the reached instances of a text, and prints the reply and then the table.
 fn print_found(rt: &impl Print, text: &[u8], table: &mut [u32]) -> io::Result<()> {
-    let mut line = [0; 17];
-    print_line(rt, checker::devashtor_find(text, table), &mut line)?;
+    print_line::<17>(rt, checker::devashtor_find(text, table))?;
     print_words(rt, table)?;
     rt.write_all(b"\n")
 }
 
 // Reads how many words are lent and a text as long as the buffer, and finds.
 pub fn find(rt: &(impl Input + Print), buffer: &mut [u8]) -> io::Result<()> {
-    let mut table = words_lent();
+    let mut table = [LENT; WORDS_LENT];
     let count = read_count(rt)?;
     let n = read_full(rt, buffer)?;
     print_found(rt, &buffer[..n], &mut table[..count])
@@ -83,9 +77,12 @@ pub fn find(rt: &(impl Input + Print), buffer: &mut [u8]) -> io::Result<()> {
 fn read_word(rt: &impl Input) -> io::Result<u32> {
     let mut line = [0; 9];
     read_full(rt, &mut line)?;
-    let high = u32::from(digits::byte(&line, 0)) * 256 + u32::from(digits::byte(&line, 1));
-    let low = u32::from(digits::byte(&line, 2)) * 256 + u32::from(digits::byte(&line, 3));
-    Ok(high * 65536 + low)
+    Ok(u32::from_be_bytes([
+        digits::byte(&line, 0),
+        digits::byte(&line, 1),
+        digits::byte(&line, 2),
+        digits::byte(&line, 3),
+    ]))
 }
 
 // Reads as many words as the list has.
@@ -113,7 +110,7 @@ fn solving(rt: &(impl Input + Print), buffer: &mut [u8], list: &mut [u32]) -> io
 
 // Reads how many words the list has, the list, and a text as long as the buffer, and solves.
 pub fn solve(rt: &(impl Input + Print), buffer: &mut [u8]) -> io::Result<()> {
-    let mut list = words_lent();
+    let mut list = [LENT; WORDS_LENT];
     let count = read_count(rt)?;
     solving(rt, buffer, &mut list[..count])
 }

@@ -4,11 +4,11 @@ use Prim.Native.Nat.{ℕ, ◌+◌, ◌*◌, ◌≤◌, ◌<◌}
 use native.Mathlib.Omega.{arith}
 use native.Mathlib.Decide.{ℕ_discrete, dec_lt}
 use mathlib.Core.Path.{◌≡◌, refl, sym, ap, ap₂, ◌∙◌}
-use mathlib.Core.Bool.{Bool, true, false, not, cond, ◌&&◌, true≢false}
+use mathlib.Core.Bool.{Bool, true, false, not, cond, true≢false}
 use mathlib.Core.List.{List, [], ◌∷◌}
 use lib.Dec.{eqb}
 use lib.ListN.{length, get_or}
-use borrow.Author.Tests.{eq-eqb}
+use borrow.Author.Tests.{ne_eqb}
 use Rattle.spelling.specs.Stands.{Stands, first, after_one}
 use Rattle.translation.specs.Processes.{Process}
 use Rattle.translation.specs.Modal.{Modal, Actions, any_action, only, other_than, one_of}
@@ -39,23 +39,32 @@ one_of_told {s} {at} {action} {place} q ep ec ea = record {
 }
 
 -- ---- whether the summand in a place of the sheet matches
-module _ {s places : List ℕ} {at slot byte p action : ℕ} where
-  pub match_told : byte ≡ get_or s (256 * slot) 0 → p ≡ get_or places (5 * slot) 0 → action ≡ get_or s (256 * slot + p) 0
-      → {one r : Bool} → IsOneOf s at action one → r ≡ (eqb byte 7 && one) → IsMatch s places at slot r
-  match_told eb ep ea {one} {r} o q = record {
+module _ {s places : List ℕ} {at slot byte : ℕ} (eb : byte ≡ get_or s (256 * slot) 0) where
+  -- a summand stands there
+  pub match_told : {p action : ℕ} → p ≡ get_or places (5 * slot) 0 → action ≡ get_or s (256 * slot + p) 0 → {r : Bool}
+      → IsOneOf s at action r → byte ≡ 7 → IsMatch s places at slot r
+  match_told {p} {action} ep ea {r} o seven = record {
     told = λ process f A j sheet placed h es few. (
       (λ l.
           let x = nth_summand process j in
           let there : Stands s (256 * slot) (summand_frame x) = rw es (sheet.summand j l) in
           let place : p ≡ action_place x = ep ∙ ap (λ (n : ℕ). get_or places (5 * n) 0) es ∙ placed.action j l in
           let act : action ≡ x.action = ea ∙ ap (λ (n : ℕ). get_or s (256 * slot + n) 0) place ∙ action_read x there in
-          let seven : byte ≡ 7 = eb ∙ first_byte x there in
-          q ∙ ap₂ ◌&&◌ (eq-eqb byte 7 seven) (o.told A h ∙ ap (one_of A) act)),
-      (λ l.
-          let none : byte ≡ 0 = eb ∙ ap (λ (n : ℕ). get_or s (256 * n) 0) es ∙ sheet.empty j l (omega (arith, es, few)) in
-          q ∙ ap (λ (n : ℕ). eqb n 7 && one) none),
+          o.told A h ∙ ap (one_of A) act),
+      (λ l. absurd (omega (arith, seven, eb, ap (λ (n : ℕ). get_or s (256 * n) 0) es, sheet.empty j l (omega (arith, es, few))))),
     );
   }
+
+  -- none stands there
+  pub match_none : (byte ≡ 7 → ⊥) → IsMatch s places at slot (eqb byte 7)
+  match_none other = rw (ne_eqb byte 7 other) (record {
+    told = λ process f A j sheet placed h es few. (
+      (λ l.
+          let there : Stands s (256 * slot) (summand_frame (nth_summand process j)) = rw es (sheet.summand j l) in
+          absurd (other (eb ∙ first_byte (nth_summand process j) there))),
+      (λ l. refl),
+    );
+  })
 
 -- ---- the first place that matches
 -- no place from `from` on and below `slot` has a summand that matches

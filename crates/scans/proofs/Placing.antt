@@ -5,7 +5,7 @@ use native.Mathlib.Omega.{arith}
 use native.Mathlib.Decide.{ℕ_discrete}
 use mathlib.Core.Path.{◌≡◌, refl, sym, ap, ◌∙◌, subst}
 use mathlib.Core.List.{List}
-use lib.ListN.{length, length-set, length-replicate, get_or, set, replicate}
+use lib.ListN.{length, length-set, get_or, set}
 use lib.Seq.{get_or-set_same, get_or-set_other}
 use Rattle.meaning.specs.Logic.{Is}
 use Rattle.translation.specs.Processes.{Process}
@@ -26,14 +26,6 @@ pub record Placing (s places : List ℕ) (k : ℕ) : Type 0 where
   pub near : k ≤ 85
   pub so_far : (process : Process) (f : Modal) → Sheet process f s → Is (well_formed_input process f)
       → Filled process places k
-
-pub placing_start : (s : List ℕ) → Placing s (replicate 85 0) 5
-placing_start s = record {
-  size = length-replicate {A = ℕ} 85 0;
-  low = omega arith;
-  near = omega arith;
-  so_far = λ process f sheet p j i l m n. absurd (omega (arith, n));
-}
 
 module _ {s places : List ℕ} {k : ℕ} (h : Placing s places k) where
   more_filled : {v : ℕ} → PlaceTold s (k / 5) (k % 5) (get_or places (k - 1) 0) v → k < 85

@@ -3,10 +3,11 @@
 use Prim.Native.Nat.{ℕ, suc, ◌+◌, ◌≤◌, ◌<◌}
 use native.Mathlib.Omega.{arith}
 use mathlib.Core.Path.{◌≡◌, refl, sym, ap, ap₂, ◌∙◌, subst}
-use mathlib.Core.Bool.{Bool, true, false, cond, ◌&&◌, true≢false, false≢true}
+use mathlib.Core.Bool.{Bool, true, false, cond, true≢false, false≢true}
 use mathlib.Core.List.{List, [], ◌∷◌, ◌++◌, append-nil, append_assoc}
-use lib.Dec.{eqb, leb}
+use lib.Dec.{eqb}
 use lib.ListN.{length, length-append, get_or}
+use Rattle.std.specs.Prelude.{Option, Some, None, unwrap_or}
 use Rattle.spelling.specs.Spelled.{either_code}
 use Rattle.spelling.specs.Stands.{Stands, first, after_one, left_part, right_part, moved, stands_inside}
 use Rattle.translation.specs.Modal.{Actions, any_action, only, other_than}
@@ -14,7 +15,7 @@ use Rattle.translation.specs.Modal.{Modal, truth, combined, after, fixed_point, 
 use Rattle.translation.specs.Translation.{begins_with_fixed_point}
 use Rattle.inputs.specs.InputFrames.{spelled_actions, spelled_modal}
 use Rattle.scans.specs.FixedPoints.{Fixed, fixed_in}
-use Rattle.scans.specs.Formulas.{is_fixed, parts_of, width_at}
+use Rattle.scans.specs.Formulas.{is_fixed, parts_of, after_width, code_width, width_at}
 use Rattle.scans.proofs.Spelled.{opened}
 
 unfoldable pub spelled_modals : List Modal → List ℕ
@@ -69,21 +70,34 @@ actions_width any_action s at w h = rw (first s at 0x11 w h) refl
 actions_width (only a) s at w h = rw (first s at 0x36 (a ∷ w) h) refl
 actions_width (other_than a) s at w h = rw (first s at 0x35 (a ∷ w) h) refl
 
+pub actions_wide : (A : Actions) (s : List ℕ) (at : ℕ) (w : List ℕ) → Stands s at (spelled_actions A ++ w)
+    → after_width (get_or s at 0) ≡ Some (suc (length (spelled_actions A)))
+unfolding spelled_actions after_width
+actions_wide any_action s at w h = rw (first s at 0x11 w h) refl
+actions_wide (only a) s at w h = rw (first s at 0x36 (a ∷ w) h) refl
+actions_wide (other_than a) s at w h = rw (first s at 0x35 (a ∷ w) h) refl
+
+-- where the code has no width
+abbrev otherwise : ℕ → ℕ
+otherwise code = cond (eqb code 0x30) 3 (cond (eqb code 0x31) 3 1)
+
+abbrev bytes : ℕ → Option ℕ → ℕ
+bytes n w = unwrap_or w n
+
 abbrev pub width_by : ℕ → ℕ → ℕ
-width_by code next =
-    cond (eqb code 0x34) 2 (cond (leb 0x30 code && leb code 0x31) (cond (eqb next 0x11) 2 3) 1)
+width_by code behind = bytes (otherwise code) (code_width code behind)
 
 pub code_told : (f : Modal) (s : List ℕ) (at : ℕ) (w : List ℕ) → Stands s at (own_bytes f ++ w)
     → (parts_of (modal_code f) ≡ length (modals_in f))
     × (is_fixed (modal_code f) ≡ begins_with_fixed_point f)
     × (width_by (modal_code f) (get_or s (at + 1) 0) ≡ length (own_bytes f))
-unfolding parts_of is_fixed begins_with_fixed_point modals_in modal_code modal_operands either_code
+unfolding parts_of is_fixed code_width begins_with_fixed_point modals_in modal_code modal_operands either_code
 code_told (truth true) s at w h = (refl, refl, refl)
 code_told (truth false) s at w h = (refl, refl, refl)
 code_told (combined true f g) s at w h = (refl, refl, refl)
 code_told (combined false f g) s at w h = (refl, refl, refl)
-code_told (after true A f) s at w h = (refl, refl, actions_width A s (at + 1) w (after_one s at 0x30 _ h))
-code_told (after false A f) s at w h = (refl, refl, actions_width A s (at + 1) w (after_one s at 0x31 _ h))
+code_told (after true A f) s at w h = (refl, refl, ap (bytes 3) (actions_wide A s (at + 1) w (after_one s at 0x30 _ h)))
+code_told (after false A f) s at w h = (refl, refl, ap (bytes 3) (actions_wide A s (at + 1) w (after_one s at 0x31 _ h)))
 code_told (fixed_point true f) s at w h = (refl, refl, refl)
 code_told (fixed_point false f) s at w h = (refl, refl, refl)
 code_told (of_fixed_point n) s at w h = (refl, refl, refl)
@@ -183,14 +197,32 @@ parts_few code =
     (below (eqb code 0x30) 1 _ 2 (omega arith) (below (eqb code 0x31) 1 _ 2 (omega arith)
     (below (eqb code 0x32) 1 _ 2 (omega arith) (below (eqb code 0x33) 1 0 2 (omega arith) (omega arith))))))
 
-width_choice : (a b c : Bool) → (1 ≤ cond a 2 (cond b (cond c 2 3) 1)) × (cond a 2 (cond b (cond c 2 3) 1) ≤ 3)
-width_choice true b c = (omega arith, omega arith)
-width_choice false true true = (omega arith, omega arith)
-width_choice false true false = (omega arith, omega arith)
-width_choice false false c = (omega arith, omega arith)
+record Small (n : ℕ) (w : Option ℕ) : Type 0 where
+  pub some : 1 ≤ bytes n w
+  pub few : bytes n w ≤ 3
+
+either_small : (b : Bool) {n : ℕ} {v w : Option ℕ} → Small n v → Small n w → Small n (cond b v w)
+either_small true x y = x
+either_small false x y = y
+
+none_small : (b c : Bool) → Small (cond b 3 (cond c 3 1)) None
+none_small true c = record { some = omega arith; few = omega arith }
+none_small false true = record { some = omega arith; few = omega arith }
+none_small false false = record { some = omega arith; few = omega arith }
 
 pub width_small : (s : List ℕ) (at : ℕ) → (1 ≤ width_at s at) × (width_at s at ≤ 3)
-unfolding width_at
+unfolding width_at code_width after_width
 width_small s at =
     let code = get_or s (4352 + at) 0 in
-    width_choice (eqb code 0x34) (leb 0x30 code && leb code 0x31) (eqb (get_or s (4353 + at) 0) 0x11)
+    let behind = get_or s (4353 + at) 0 in
+    let n = otherwise code in
+    let one : Small n (Some 1) = record { some = omega arith; few = omega arith } in
+    let two : Small n (Some 2) = record { some = omega arith; few = omega arith } in
+    let three : Small n (Some 3) = record { some = omega arith; few = omega arith } in
+    let none = none_small (eqb code 0x30) (eqb code 0x31) in
+    let after = either_small (eqb behind 0x11) two (either_small (eqb behind 0x35) three
+    (either_small (eqb behind 0x36) three none)) in
+    let small = either_small (eqb code 0x10) one (either_small (eqb code 0x11) one (either_small (eqb code 0x12) one
+    (either_small (eqb code 0x13) one (either_small (eqb code 0x30) after (either_small (eqb code 0x31) after
+    (either_small (eqb code 0x32) one (either_small (eqb code 0x33) one (either_small (eqb code 0x34) two none)))))))) in
+    (small.some, small.few)

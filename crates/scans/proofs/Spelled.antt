@@ -1,10 +1,7 @@
 -- Things that stand one after the other, each spelled as some bytes of its own and then the things inside it.
 -- Behind the bytes of its own stand the things inside the first and then the others.
-use Prim.Native.Nat.{ℕ, ◌<◌}
-use mathlib.Core.Path.{◌≡◌, sym, ap, ap₂, ◌∙◌}
-use mathlib.Core.Bool.{Bool, true, false, ◌&&◌, and-eq-true_iff, true≢false}
-use lib.Dec.{ltb}
-use borrow.Author.Tests.{ltb-true, lt-ltb}
+use Prim.Native.Nat.{ℕ}
+use mathlib.Core.Path.{◌≡◌, sym, ap, ◌∙◌}
 use mathlib.Core.List.{List, [], ◌∷◌, ◌++◌, append_assoc}
 
 module _ {T : Type 0} (spelled : T → List ℕ) (all : List T → List ℕ) (none : all [] ≡ [])
@@ -21,15 +18,3 @@ module _ {T : Type 0} (spelled : T → List ℕ) (all : List T → List ℕ) (no
   opened t ts own inside e =
       one t ts ∙ ap (λ (l : List ℕ). l ++ all ts) e ∙ append_assoc own (all inside) (all ts) ∙
       ap (λ (l : List ℕ). own ++ l) (sym (all_append inside ts))
-
--- ---- the test of the loops: more is to come, and the place is in the frame
-pub more_to_come : {r : Bool} (pending next : ℕ) → r ≡ ltb 0 pending && ltb next 256 → r ≡ true
-    → (0 < pending) × (next < 256)
-more_to_come pending next e t =
-    let both = (and-eq-true_iff (ltb 0 pending) (ltb next 256)).0 (sym e ∙ t) in
-    (ltb-true 0 pending both.0, ltb-true next 256 both.1)
-
-pub none_to_come : {A : Type 0} {r : Bool} (pending next : ℕ) → r ≡ ltb 0 pending && ltb next 256 → r ≡ false
-    → 0 < pending → next < 256 → A
-none_to_come pending next e t some near =
-    absurd (true≢false (sym (ap₂ ◌&&◌ (lt-ltb 0 pending some) (lt-ltb next 256 near)) ∙ sym e ∙ t))

@@ -1,7 +1,8 @@
 -- What is promised of the formula on a sheet: where a formula ends, how many fixed points are in it, and
 -- where each stands.
 -- Places are counted from the formula's own first byte, which stands at 4352.
-use Rattle.std.specs.Prelude.{ℕ, ◌+◌, ◌≤◌, ◌<◌, ◌≡◌, Bool, true, cond, ◌&&◌, List, eqb, leb, length, get_or}
+use Rattle.std.specs.Prelude.{ℕ, ◌+◌, ◌≤◌, ◌<◌, ◌≡◌, Bool, true, cond, List, eqb, length, get_or}
+use Rattle.std.specs.Prelude.{Option, Some, None, unwrap_or}
 use Rattle.spelling.specs.Stands.{Stands}
 use Rattle.translation.specs.Modal.{Modal, fixed_points, fixed_point}
 use Rattle.inputs.specs.InputFrames.{spelled_modal}
@@ -18,12 +19,29 @@ parts_of code =
     cond (eqb code 0x12) 2 (cond (eqb code 0x13) 2
     (cond (eqb code 0x30) 1 (cond (eqb code 0x31) 1 (cond (eqb code 0x32) 1 (cond (eqb code 0x33) 1 0)))))
 
--- how many bytes the code at a place takes with its operands
+-- how many bytes a code takes with its operands; `first` and `behind` are the byte behind it. None where it
+-- is no code, or begins no actions
+unfoldable pub after_width : ℕ → Option ℕ
+after_width first =
+    cond (eqb first 0x11) (Some 2) (cond (eqb first 0x35) (Some 3) (cond (eqb first 0x36) (Some 3) None))
+
+unfoldable pub code_width : ℕ → ℕ → Option ℕ
+code_width code behind =
+    cond (eqb code 0x10) (Some 1)
+    (cond (eqb code 0x11) (Some 1)
+    (cond (eqb code 0x12) (Some 1)
+    (cond (eqb code 0x13) (Some 1)
+    (cond (eqb code 0x30) (after_width behind)
+    (cond (eqb code 0x31) (after_width behind)
+    (cond (eqb code 0x32) (Some 1)
+    (cond (eqb code 0x33) (Some 1)
+    (cond (eqb code 0x34) (Some 2) None))))))))
+
+-- that of the code at a place; where there is none, 3 behind a box or a diamond, else 1
 unfoldable pub width_at : List ℕ → ℕ → ℕ
 width_at sheet at =
-    cond (eqb (get_or sheet (4352 + at) 0) 0x34) 2
-    (cond (leb 0x30 (get_or sheet (4352 + at) 0) && leb (get_or sheet (4352 + at) 0) 0x31)
-    (cond (eqb (get_or sheet (4353 + at) 0) 0x11) 2 3) 1)
+    unwrap_or (code_width (get_or sheet (4352 + at) 0) (get_or sheet (4353 + at) 0))
+    (cond (eqb (get_or sheet (4352 + at) 0) 0x30) 3 (cond (eqb (get_or sheet (4352 + at) 0) 0x31) 3 1))
 
 -- what `skip` promises: of any sheet that its reply is small, and of a formula that stands there its end and
 -- how many fixed points are in it

@@ -5,7 +5,7 @@
 mod modals;
 mod summands;
 
-pub use modals::{find_fixed, is_fixed, parts_of, skip};
+pub use modals::{code_width, find_fixed, is_fixed, parts_of, skip};
 pub use summands::{next_matching, part_parts, part_width, places_of};
 
 // Where a formula ends, and how many fixed points stand in it.

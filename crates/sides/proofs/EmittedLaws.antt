@@ -125,8 +125,9 @@ puts_byte out count b h = (
   record { put = λ t l. (omega arith, refl); over = λ g. let past = g refl in absurd (omega arith) },
 )
 
-pub no_byte : (out : List ℕ) (count b : ℕ) → 256 ≤ count → Puts true (b ∷ []) out count out 257
-no_byte out count b h = (
+-- into a frame that is full
+pub puts_full : {fits : Bool} {w out : List ℕ} {count : ℕ} → 256 ≤ count → 1 ≤ length w → Puts fits w out count out 257
+puts_full h some = (
   record { size = refl; more = λ l. omega arith; full = λ g. refl; most = omega arith },
   record { put = λ t l. absurd (omega arith); over = λ g. refl },
 )

@@ -3,11 +3,11 @@
 use Prim.Native.Nat.{ℕ, ◌+◌, ◌*◌, ◌-◌, ◌≤◌, ◌<◌}
 use native.Mathlib.Omega.{arith}
 use mathlib.Core.Path.{◌≡◌, refl, sym, ap, ap₂, ◌∙◌, subst}
-use mathlib.Core.Bool.{Bool, true, false, ◌&&◌, and-eq-true_iff, true≢false}
+use mathlib.Core.Bool.{Bool, true}
 use mathlib.Core.List.{List, [], ◌∷◌, ◌++◌, append-nil}
 use lib.Dec.{eqb, leb, ltb}
 use lib.ListN.{length, get_or, length-append}
-use borrow.Author.Tests.{leb-true, leb-false, ltb-true, ltb-false, eqb-true, eqb-false, lt-ltb, le-leb}
+use borrow.Author.Tests.{leb-true, leb-false, ltb-true, ltb-false, eqb-true, eqb-false}
 use Rattle.meaning.specs.Logic.{Is, and_l, cases}
 use Rattle.meaning.specs.Formulas.{Term, number}
 use Rattle.spelling.specs.Spelled.{spelled_term}
@@ -18,9 +18,10 @@ use Rattle.scans.specs.Items.{Item, plain_item, spelled_item, spelled_items, ite
 use Rattle.scans.specs.Summands.{nth_summand}
 use Rattle.scans.proofs.ScannedItems.{plain_items, ItemTurn, item_turn, item_alone, plain_alone}
 use Rattle.scans.proofs.ScannedItems.{part_parts_few, part_width_small}
+use Rattle.sides.specs.declared.Listed.{Listed}
 use Rattle.sides.specs.declared.Part.{Part}
 use Rattle.sides.specs.Emitted.{Emits, Grows, Puts}
-use Rattle.sides.specs.Steps.{Step, Stacked, terms_in, item_after, items_after, sound_item, flipped, slot_in}
+use Rattle.sides.specs.Steps.{Step, Stacked, terms_in, item_after, items_after, sound_item, flipped, nth_step}
 use Rattle.sides.specs.Told.{Laid, code_bytes, PartTold, VariableTold}
 use Rattle.sides.proofs.EmittedLaws.{emits_none, emits_full, emits_as, emits_next}
 use Rattle.sides.proofs.ItemLaws.{sound_items, sound_alone, sound_inside, items_put, other_put, variable_put}
@@ -31,7 +32,7 @@ abbrev pub reached : Process → Step → ℕ
 reached process s = length (process.ranges ++ (nth_summand process s.index).own)
 
 -- ---- one turn: what is put for the code at a place, with what follows it, are the items from there on
-pub record PartTurn (sheet places steps : List ℕ) (step : ℕ) (flip : Bool) (at : ℕ) (out : List ℕ) (c : ℕ)
+pub record PartTurn (sheet places : List ℕ) (steps : List Listed) (step : ℕ) (flip : Bool) (at : ℕ) (out : List ℕ) (c : ℕ)
     (out' : List ℕ) (c' : ℕ) : Type 0 where
   pub grows : Grows out c out' c'
   pub told : (process : Process) (f : Modal) (s : Step) (ss : List Step) → Laid process f sheet places
@@ -48,7 +49,7 @@ first_sound : (k : ℕ) (i : Item) (js : List Item) → Is (sound_items k (i ∷
 unfolding sound_items
 first_sound k i js p = and_l (sound_item k i) (sound_items k js) p
 
-module _ {sheet places steps : List ℕ} {step : ℕ} {out : List ℕ} {c x : ℕ} {out' : List ℕ} {c' : ℕ} where
+module _ {sheet places : List ℕ} {steps : List Listed} {step : ℕ} {out : List ℕ} {c x : ℕ} {out' : List ℕ} {c' : ℕ} where
   -- a variable of the last step's summand
   variable_told : VariableTold sheet places x step steps out c out' c' → (process : Process) (f : Modal) (s : Step)
       (ss : List Step) → Laid process f sheet places → Stacked process steps step (s ∷ ss) → x < reached process s
@@ -98,7 +99,8 @@ pub record Pending (sheet : List ℕ) (k : ℕ) (σ : List Term) (flip : Bool) (
   pub there : Stands sheet at (spelled_items js)
   pub rest : {left : List ℕ} {r : ℕ} → Emits true (items_after σ flip js) out c left r → Emits true whole out₀ count left r
 
-pub record Parting (sheet places : List ℕ) (part : Part) (steps out₀ : List ℕ) (count : ℕ) (out : List ℕ) (at pending c : ℕ)
+pub record Parting (sheet places : List ℕ) (part : Part) (steps : List Listed) (out₀ : List ℕ) (count : ℕ) (out : List ℕ)
+    (at pending c : ℕ)
     : Type 0 where
   pub size : length out ≡ length out₀
   pub near : at ≤ 65535 + 2 * c
@@ -117,8 +119,8 @@ alone_after : (σ : List Term) (flip : Bool) (i : Item) → items_after σ flip 
 unfolding items_after
 alone_after σ flip i = append-nil (item_after σ flip i)
 
-pub parting_start : (sheet places : List ℕ) (part : Part) (steps out : List ℕ) (count slot at : ℕ) → count ≤ 257
-    → part.at < 256 → slot < 256 → slot ≡ slot_in steps part.step → at ≡ 256 * slot + part.at
+pub parting_start : (sheet places : List ℕ) (part : Part) (steps : List Listed) (out : List ℕ) (count slot at : ℕ) → count ≤ 257
+    → part.at < 256 → slot < 256 → slot ≡ (nth_step steps part.step).slot → at ≡ 256 * slot + part.at
     → Parting sheet places part steps out count out at 1 count
 parting_start sheet places part steps out count slot at most low few is place = record {
   size = refl;
@@ -140,7 +142,7 @@ parting_start sheet places part steps out count slot at most low few is place = 
       );
 }
 
-module _ {sheet places steps out₀ : List ℕ} {count : ℕ} {out : List ℕ} {at pending c : ℕ} where
+module _ {sheet places : List ℕ} {steps : List Listed} {out₀ : List ℕ} {count : ℕ} {out : List ℕ} {at pending c : ℕ} where
   pending_turn : (process : Process) (f : Modal) (s : Step) (ss : List Step) (step : ℕ) (flip : Bool)
       → Laid process f sheet places → Stacked process steps step (s ∷ ss) → {whole out' : List ℕ} {c' parts width : ℕ}
       → PartTurn sheet places steps step flip at out c out' c'
@@ -172,7 +174,7 @@ module _ {sheet out₀ : List ℕ} {count : ℕ} {out : List ℕ} {at pending c 
       (λ l. absurd (none (omega (arith, p.as_many)) (leb-true c 256 l)))
       (λ l. let past = leb-false c 256 l in p.rest (emits_full past (omega arith)))
 
-module _ {sheet places : List ℕ} {part : Part} {steps out₀ : List ℕ} {count : ℕ} {out : List ℕ} {at pending c : ℕ}
+module _ {sheet places : List ℕ} {part : Part} {steps : List Listed} {out₀ : List ℕ} {count : ℕ} {out : List ℕ} {at pending c : ℕ}
     (k : Parting sheet places part steps out₀ count out at pending c) where
   pub parting_turn : {out' : List ℕ} {c' parts width : ℕ} → 0 < pending → c ≤ 256
       → PartTurn sheet places steps part.step part.flip at out c out' c'
@@ -208,12 +210,9 @@ module _ {sheet places : List ℕ} {part : Part} {steps out₀ : List ℕ} {coun
         pending_end k.most none p.0 p.1;
   }
 
--- ---- the test of the loop: more is to come, and there is room
-pub more_to_put : {r : Bool} (pending c : ℕ) → r ≡ ltb 0 pending && leb c 256 → r ≡ true → (0 < pending) × (c ≤ 256)
-more_to_put pending c e t =
-    let both = (and-eq-true_iff (ltb 0 pending) (leb c 256)).0 (sym e ∙ t) in
-    (ltb-true 0 pending both.0, leb-true c 256 both.1)
-
-pub none_to_put : {r : Bool} (pending c : ℕ) → r ≡ ltb 0 pending && leb c 256 → r ≡ false → 0 < pending → c ≤ 256 → ⊥
-none_to_put pending c e t some room =
-    true≢false (sym (ap₂ ◌&&◌ (lt-ltb 0 pending some) (le-leb c 256 room)) ∙ sym e ∙ t)
+-- a turn after which there was no more room
+pub parting_full : {sheet places : List ℕ} {part : Part} {steps : List Listed} {out₀ : List ℕ} {count : ℕ} {out : List ℕ}
+    {at pending c : ℕ}
+    {out' : List ℕ} → Parting sheet places part steps out₀ count out at pending c → 0 < pending → c ≤ 256
+    → PartTurn sheet places steps part.step part.flip at out c out' 257 → PartTold sheet places part steps out₀ count out' 257
+parting_full k some room turn = parting_end (parting_turn k some room turn refl refl) (λ more fits. omega arith)

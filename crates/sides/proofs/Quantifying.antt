@@ -18,7 +18,7 @@ use Rattle.scans.specs.Summands.{nth_summand}
 use Rattle.scans.proofs.SummandFrames.{own_count}
 use Rattle.sides.specs.Emitted.{Emits, Puts}
 use Rattle.sides.specs.Told.{quantifier_bytes, QuantifiersTold}
-use Rattle.sides.proofs.EmittedLaws.{emits_none, emits_next, grows_on}
+use Rattle.sides.proofs.EmittedLaws.{emits_none, emits_full, emits_next, grows_on}
 
 -- what stands somewhere, byte by byte
 pub stands_at : (s : List ℕ) (at : ℕ) (w : List ℕ) (i : ℕ) → Stands s at w → i < length w
@@ -83,16 +83,27 @@ module _ {sheet : List ℕ} {at : ℕ} {all : Bool} {out₀ : List ℕ} {count o
         q.told rs n h (rw (drop-cons rs i 0 (omega (arith, n)), ← there, ← is) both);
   }
 
-  pub quantified : (slot : ℕ) → at ≡ 256 * slot → own ≡ get_or sheet (at + 1) 0 → own ≤ i
-      → QuantifiersTold sheet slot all out₀ count out c
-  unfolding quantifier_bytes
-  quantified slot place is l = record {
-    size = q.size;
-    more = q.more;
-    told = λ process f j s e less h.
-        let placed : 256 * (j + 1) ≡ at = omega (arith, place, e) in
-        let rs = (nth_summand process j).own in
-        let there = subst (λ (n : ℕ). OwnThere sheet n rs) placed (own_there process f sheet j s less) in
-        let all_put : drop i rs ≡ [] = drop_of_length-le rs {i = i} (omega (arith, is, there.count)) in
-        q.told rs (is ∙ there.count) there.ranges (rw all_put (emits_none (q.more h).1));
-  }
+  module _ (slot : ℕ) (place : at ≡ 256 * slot) (is : own ≡ get_or sheet (at + 1) 0) where
+    quantified_as : ((rs : List ℕ) → own ≡ length rs → c ≤ 257 → Emits true (quantifier_bytes all (drop i rs)) out c out c)
+        → QuantifiersTold sheet slot all out₀ count out c
+    quantified_as rest = record {
+      size = q.size;
+      more = q.more;
+      told = λ process f j s e less h.
+          let placed : 256 * (j + 1) ≡ at = omega (arith, place, e) in
+          let rs = (nth_summand process j).own in
+          let there = subst (λ (n : ℕ). OwnThere sheet n rs) placed (own_there process f sheet j s less) in
+          let many = is ∙ there.count in
+          q.told rs many there.ranges (rest rs many (q.more h).1);
+    }
+
+    -- all are put
+    pub quantified : own ≤ i → QuantifiersTold sheet slot all out₀ count out c
+    unfolding quantifier_bytes
+    quantified l =
+        quantified_as (λ rs n most.
+        let all_put : drop i rs ≡ [] = drop_of_length-le rs {i = i} (omega (arith, n)) in rw all_put (emits_none most))
+
+    -- or there was no more room
+    pub quantified_full : 256 < c → QuantifiersTold sheet slot all out₀ count out c
+    quantified_full g = quantified_as (λ rs n most. emits_full g (omega arith))

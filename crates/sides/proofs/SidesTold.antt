@@ -3,12 +3,12 @@
 use Prim.Native.Nat.{ℕ, ◌+◌, ◌-◌, ◌*◌, ◌≤◌, ◌<◌}
 use native.Mathlib.Omega.{arith}
 use mathlib.Core.Path.{◌≡◌, refl, sym, ◌∙◌, ap, subst}
-use mathlib.Core.Bool.{Bool, true}
+use mathlib.Core.Bool.{Bool, true, false}
 use mathlib.Core.List.{List, [], ◌∷◌, map}
 use lib.Dec.{eqb, leb}
-use lib.ListN.{length, get_or, drop}
-use lib.Seq.{sets}
+use lib.ListN.{length, get_or, drop, set}
 use borrow.Author.Tests.{le-leb, lt-leb, leb-true, leb-false}
+use Rattle.std.specs.Prelude.{Option, Some, None, IfSome, is_some, unwrap_or}
 use Rattle.meaning.specs.Logic.{cases}
 use Rattle.meaning.specs.Formulas.{Term, Formula, joined, instance}
 use Rattle.spelling.specs.Spelled.{either_code, spelled}
@@ -24,18 +24,20 @@ use Rattle.scans.specs.Formulas.{Skips}
 use Rattle.scans.specs.Summands.{nth_summand, Matches, FirstMatch}
 use Rattle.scans.specs.declared.Skipped.{Skipped}
 use Rattle.scans.proofs.SummandFrames.{own_count, condition_stands, ruled}
+use Rattle.sides.specs.declared.Listed.{Listed}
 use Rattle.sides.specs.declared.Spot.{Spot}
 use Rattle.sides.specs.declared.Part.{Part}
 use Rattle.sides.specs.Emitted.{Emits, Grows, Puts}
-use Rattle.sides.specs.Steps.{Step, Stacked, state_after, terms_in, item_after}
-use Rattle.sides.specs.Told.{Laid, PartTold, InstanceTold, QuantifiersTold, kind, before_of, equation_number, inner_place}
+use Rattle.sides.specs.Steps.{Step, listed, Stacked, state_after, terms_in, item_after}
+use Rattle.sides.specs.Told.{Laid, PartTold, InstanceTold, QuantifiersTold, before_of, equation_number, inner_place}
 use Rattle.sides.specs.Told.{inside, moved, Ready, Spotted, Kept, side_of, EmitsFormula, SideTold, BothTold, FixedTold}
-use Rattle.sides.specs.Told.{StepTold, SummandsTold}
+use Rattle.sides.specs.Told.{StepTold, ConnectiveTold, SummandsTold}
 use Rattle.sides.proofs.EmittedLaws.{emits_full, emits_fifth, emits_fits, emits_next}
 use Rattle.sides.proofs.EmittedLaws.{grows_then, grows_on}
 use Rattle.sides.proofs.StateLaws.{summand_formed}
 use Rattle.sides.proofs.StepList.{stacked_kept, stacked_more, kept_same, kept_then, kept_around, kept_written}
-use Rattle.sides.proofs.Spots.{modal_kind, kind_at, begins_inside, box_code, joined_code, truth_code, equation_numbered}
+use Rattle.sides.proofs.Spots.{kind, modal_kind, kind_at, spot_inside, begins_inside, box_code, joined_code, truth_code}
+use Rattle.sides.proofs.Spots.{equation_numbered}
 use Rattle.sides.proofs.Spots.{behind_code, first_spotted, second_inside, second_small, second_number, second_spotted}
 use Rattle.sides.proofs.Spots.{actions_stand, inner_inside, inside_spotted, fixed_small, named_number, named_small}
 use Rattle.sides.proofs.Boxes.{inner_formula, emits_joined, emits_after, none_matching, first_matching}
@@ -59,7 +61,7 @@ own_of : {process : Process} {f : Modal} {sheet : List ℕ} {slot own : ℕ} →
     → Sheet process f sheet → slot ≡ j + 1 → j < length process.summands → own ≡ length (nth_summand process j).own
 own_of {process} own_is j sh e l = own_is ∙ rw e (own_count (nth_summand process j) (sh.summand j l))
 
-module _ (sheet places : List ℕ) (spot : Spot) (slot own : ℕ) (steps out : List ℕ) (count : ℕ)
+module _ (sheet places : List ℕ) (spot : Spot) (slot own : ℕ) (steps : List Listed) (out : List ℕ) (count : ℕ)
     (own_is : own ≡ get_or sheet (256 * slot + 1) 0) where
   pub step_fifth : 4 < spot.q + own → StepTold sheet places spot slot steps out count steps out 257
   step_fifth g = record {
@@ -69,6 +71,14 @@ module _ (sheet places : List ℕ) (spot : Spot) (slot own : ℕ) (steps out : L
     told = λ process f h b A j ss laid st stacked e l q.
         let own_many = own_of own_is j laid.sheet_is e l in
         emits_fifth (lt-leb (spot.q + length (nth_summand process j).own) 4 (omega (arith, own_many))) refl;
+  }
+
+  pub step_full : 256 < count → StepTold sheet places spot slot steps out count steps out 257
+  step_full g = record {
+    grows = grows_no refl;
+    kept = kept_same steps spot;
+    written = λ l. absurd (omega arith);
+    told = λ process f h b A j ss laid st stacked e l q. emits_full g refl;
   }
 
   module _ (all : Bool) (few : spot.q + own ≤ 4) (near : count ≤ 257) (all_is : all ≡ eqb (get_or sheet (4352 + spot.at) 0) 0x30)
@@ -97,8 +107,8 @@ module _ (sheet places : List ℕ) (spot : Spot) (slot own : ℕ) (steps out : L
           emits_fits (sym fits) (rw (← same) (emits_next x (emits_next coded.1 (emits_full g refl))));
     }
 
-    module _ (ready : Ready out steps spot count) (short : c ≤ 256) where
-      pub step_room : 2 * spot.depth + 1 < 256
+    module _ (ready : Ready spot count) (long : length steps ≡ 128) (short : c ≤ 256) where
+      pub step_room : spot.depth < 128
       step_room =
           let on = grows_on head_grows near in
           let more = head_grows.more (omega (arith, on.0)) in
@@ -107,7 +117,7 @@ module _ (sheet places : List ℕ) (spot : Spot) (slot own : ℕ) (steps out : L
       abbrev condition_part : Part
       condition_part = record { at = 2 + own; step = spot.depth + 1; flip = all }
 
-      condition_told : {written left : List ℕ} {r : ℕ} → written ≡ sets steps (2 * spot.depth) (slot ∷ spot.q ∷ [])
+      condition_told : {written : List Listed} {left : List ℕ} {r : ℕ} → written ≡ set steps spot.depth (listed slot spot.q)
           → PartTold sheet places condition_part written before c left r
           → (process : Process) (f : Modal) (j : ℕ) (ss : List Step) → Laid process f sheet places
           → Stacked process steps spot.depth ss → slot ≡ j + 1 → j < length process.summands → spot.q ≤ 4
@@ -121,16 +131,16 @@ module _ (sheet places : List ℕ) (spot : Spot) (slot own : ℕ) (steps out : L
           let there = condition_stands x (laid.sheet_is.summand j l) in
           let formed = summand_formed process f laid.formed j l in
           part.told process f s ss (condition x.condition) laid
-          (rw (is_written, e) (stacked_more process steps spot.depth ss s stacked l q (omega (arith, ready.list, step_room))))
+          (rw (is_written, e) (stacked_more process steps spot.depth ss s stacked l q (omega (arith, long, step_room))))
           (condition_plain process.ranges x formed) (condition_sound process.ranges x formed)
           (rw (own_of own_is j laid.sheet_is e l) there)
 
-      pub step_told : {written left : List ℕ} {r : ℕ} → written ≡ sets steps (2 * spot.depth) (slot ∷ spot.q ∷ [])
+      pub step_told : {written : List Listed} {left : List ℕ} {r : ℕ} → written ≡ set steps spot.depth (listed slot spot.q)
           → PartTold sheet places condition_part written before c left r
           → StepTold sheet places spot slot steps out count written left r
       step_told is_written part = record {
         grows = grows_then head_grows part.grows;
-        kept = rw is_written (kept_written spot steps slot spot.q);
+        kept = rw is_written (kept_written spot steps (listed slot spot.q));
         written = λ l.
             let on = grows_on head_grows near in
             let more = head_grows.more (omega (arith, on.0)) in
@@ -146,7 +156,8 @@ module _ (sheet places : List ℕ) (spot : Spot) (slot own : ℕ) (steps out : L
       }
 
 -- ---- the instance of a fixed point's equation
-pub fixed_told : {sheet places : List ℕ} {spot : Spot} {number e : ℕ} {steps out : List ℕ} {count : ℕ} {left : List ℕ} {r : ℕ}
+pub fixed_told : {sheet places : List ℕ} {spot : Spot} {number e : ℕ} {steps : List Listed} {out : List ℕ} {count : ℕ}
+    {left : List ℕ} {r : ℕ}
     → (number < 255 → e ≡ equation_number sheet number)
     → InstanceTold sheet places e spot.depth steps out count left r
     → FixedTold sheet places spot number steps out count left r
@@ -161,7 +172,7 @@ fixed_told {sheet} {places} {spot} {number} {e} {steps} {out} {count} {left} {r}
 abbrev pub code_here : List ℕ → Spot → ℕ
 code_here sheet spot = get_or sheet (4352 + spot.at) 0
 
-abbrev Emitted : List ℕ → List ℕ → Spot → List ℕ → List ℕ → ℕ → List ℕ → ℕ → Modal → Type 0
+abbrev Emitted : List ℕ → List ℕ → Spot → List Listed → List ℕ → ℕ → List ℕ → ℕ → Modal → Type 0
 Emitted sheet places spot steps out count left r g = (process : Process) (f : Modal) (ss : List Step)
     → Laid process f sheet places → Spotted sheet spot g → Stacked process steps spot.depth ss
     → EmitsFormula spot.q (side_of process f spot ss g) out count left r
@@ -172,7 +183,7 @@ other_kind : {X : Type 0} {sheet : List ℕ} {spot : Spot} {g : Modal} (n : ℕ)
 other_kind {X} {sheet} {spot} {g} n k p clash =
     absurd (clash (sym (kind_at sheet (4352 + spot.at) g p.stands) ∙ k))
 
-module _ {sheet places : List ℕ} {spot : Spot} {steps out : List ℕ} {count : ℕ} where
+module _ {sheet places : List ℕ} {spot : Spot} {steps : List Listed} {out : List ℕ} {count : ℕ} where
   pub side_full : 256 < count → SideTold sheet places spot steps out count steps out 257
   side_full g = record {
     grows = grows_no refl;
@@ -236,7 +247,7 @@ module _ {sheet places : List ℕ} {spot : Spot} {steps out : List ℕ} {count :
           let same = n ∙ named_number p in
           rw (← same) (e.told process f ss laid (omega (arith, same, named_small p)) st)
 
-  module _ {steps_left left : List ℕ} {r : ℕ} where
+  module _ {steps_left : List Listed} {left : List ℕ} {r : ℕ} where
     pub side_both : kind (code_here sheet spot) ≡ 1 → BothTold sheet places spot steps out count steps_left left r
         → SideTold sheet places spot steps out count steps_left left r
     side_both k e = record {
@@ -270,7 +281,7 @@ module _ {sheet places : List ℕ} {spot : Spot} {steps out : List ℕ} {count :
         by (of_fixed_point m) process f ss laid p st = other_kind 2 k p (λ x. omega arith)
 
 -- ---- a connective and both formulas
-module _ {sheet places : List ℕ} {spot : Spot} {steps out : List ℕ} {count : ℕ} where
+module _ {sheet places : List ℕ} {spot : Spot} {steps : List Listed} {out : List ℕ} {count : ℕ} where
   pub both_late : 254 < spot.at → BothTold sheet places spot steps out count steps out 257
   both_late g = record {
     grows = grows_no refl;
@@ -280,14 +291,25 @@ module _ {sheet places : List ℕ} {spot : Spot} {steps out : List ℕ} {count :
         absurd (omega arith);
   }
 
-  module _ {one two steps₁ : List ℕ} {c d : ℕ} {next : Skipped} (coded : Puts true (code_here sheet spot ∷ []) out count one c)
-      (first : SideTold sheet places (behind_code spot) steps one c steps₁ two d)
-      (s : Skips sheet (spot.at + 1) next) where
+  module _ {one two : List ℕ} {steps₁ : List Listed} {c d : ℕ} (coded : Puts true (code_here sheet spot ∷ []) out count one c)
+      (first : SideTold sheet places (behind_code spot) steps one c steps₁ two d) where
     first_kept : Kept steps spot steps₁
     first_kept = kept_around spot (omega arith) first.kept
 
-    pub both_long : 255 < next.next → BothTold sheet places spot steps out count steps₁ two 257
-    both_long g = record {
+    -- there was no more room
+    pub both_full : 256 < d → BothTold sheet places spot steps out count steps₁ two 257
+    unfolding right_side
+    both_full full = record {
+      grows = grows_no (grows_then coded.0 first.grows).size;
+      kept = first_kept;
+      told = λ process f g h all ss laid p st.
+          emits_joined spot.q all _ _ (rw (← joined_code sheet (4352 + spot.at) all g h p.stands) coded.1)
+          (first.told process f g ss laid (first_spotted p) st) (emits_full full refl);
+    }
+
+    pub both_long : {next : Skipped} → Skips sheet (spot.at + 1) next → 255 < next.next
+        → BothTold sheet places spot steps out count steps₁ two 257
+    both_long s g = record {
       grows = grows_no (grows_then coded.0 first.grows).size;
       kept = first_kept;
       told = λ process f h i all ss laid p st.
@@ -295,12 +317,14 @@ module _ {sheet places : List ℕ} {spot : Spot} {steps out : List ℕ} {count :
           absurd (omega arith);
     }
 
-    pub both_told : {second : Spot} {steps₂ left : List ℕ} {r : ℕ} → second.depth ≡ spot.depth
+    pub both_told : {next : Skipped} → Skips sheet (spot.at + 1) next → {second : Spot} {steps₂ : List Listed} {left : List ℕ}
+        {r : ℕ}
+        → second.depth ≡ spot.depth
         → (spot.number + next.count ≤ 255 → second ≡ moved spot next.next next.count)
         → SideTold sheet places second steps₁ two d steps₂ left r
         → BothTold sheet places spot steps out count steps₂ left r
     unfolding right_side
-    both_told {second} {steps₂} {left} {r} deep is_second e = record {
+    both_told {next} s {second} {steps₂} {left} {r} deep is_second e = record {
       grows = grows_then (grows_then coded.0 first.grows) e.grows;
       kept = kept_then first_kept (kept_around spot (omega (arith, deep)) e.kept);
       told = λ process f g h all ss laid p st.
@@ -315,7 +339,7 @@ module _ {sheet places : List ℕ} {spot : Spot} {steps out : List ℕ} {count :
     }
 
 -- ---- a box or a diamond over the matching summands from a place on
-module _ {sheet places : List ℕ} {spot : Spot} {from : ℕ} {steps out : List ℕ} {count : ℕ} where
+module _ {sheet places : List ℕ} {spot : Spot} {from : ℕ} {steps : List Listed} {out : List ℕ} {count : ℕ} where
   pub summands_late : 255 < inner_place sheet spot.at → SummandsTold sheet places spot from steps out count steps out 257
   summands_late g = record {
     grows = grows_no refl;
@@ -323,6 +347,13 @@ module _ {sheet places : List ℕ} {spot : Spot} {from : ℕ} {steps out : List 
     told = λ process f h all A ss laid p st some.
         let there = inner_inside sheet spot.at all A h p.stands laid.sheet_is.size in
         absurd (omega arith);
+  }
+
+  pub summands_full : 256 < count → SummandsTold sheet places spot from steps out count steps out 257
+  summands_full g = record {
+    grows = grows_no refl;
+    kept = kept_same steps spot;
+    told = λ process f h all A ss laid p st some. emits_full g refl;
   }
 
   pub summands_none : {all : Bool} {slot : ℕ} {left : List ℕ} {r : ℕ} → all ≡ eqb (code_here sheet spot) 0x30 → from ≤ 17
@@ -341,12 +372,13 @@ module _ {sheet places : List ℕ} {spot : Spot} {from : ℕ} {steps out : List 
   }
 
 -- what is known before the step of the first matching summand is put: a connective stands there, if another one matches
-pub record Connected (sheet places : List ℕ) (spot : Spot) (from : ℕ) (steps out : List ℕ) (count slot next : ℕ) (one : List ℕ)
+pub record Connected (sheet places : List ℕ) (spot : Spot) (from : ℕ) (steps : List Listed) (out : List ℕ) (count slot next : ℕ)
+    (one : List ℕ)
     (c : ℕ) : Type 0 where
   pub low : from ≤ 17
   pub high : slot ≤ 16
-  pub ready : Ready out steps spot count
-  pub near : count ≤ 257
+  pub ready : Ready spot count
+  pub long : length steps ≡ 128
   pub all : Bool
   pub all_is : all ≡ eqb (code_here sheet spot) 0x30
   pub found : Matches sheet places (spot.at + 1) from slot
@@ -354,28 +386,54 @@ pub record Connected (sheet places : List ℕ) (spot : Spot) (from : ℕ) (steps
   pub joined : next ≤ 16 → Puts true (either_code all 0x12 0x13 ∷ []) out count one c
   pub bare : 16 < next → (one ≡ out) × (c ≡ count)
 
-module _ {sheet places : List ℕ} {spot : Spot} {from : ℕ} {steps out : List ℕ} {count slot next : ℕ} {one : List ℕ} {c : ℕ}
+some_below : (o : Option ℕ) → unwrap_or o 17 ≤ 16 → is_some o ≡ true
+some_below (Some n) l = refl
+some_below None l = absurd (omega arith)
+
+none_above : (o : Option ℕ) → IfSome o (λ n. n < 17) → 16 < unwrap_or o 17 → is_some o ≡ false
+none_above (Some n) within g = absurd (omega arith)
+none_above None within g = refl
+
+pub connected : {sheet places : List ℕ} {spot : Spot} {from : ℕ} {steps : List Listed} {out : List ℕ} {count slot : ℕ}
+    {one : List ℕ}
+    {c : ℕ} (next : Option ℕ) → from ≤ 17 → slot < 17 → Ready spot count → length steps ≡ 128 → (all : Bool)
+    → all ≡ eqb (code_here sheet spot) 0x30 → Matches sheet places (spot.at + 1) from slot → IfSome next (λ n. n < 17)
+    → Matches sheet places (spot.at + 1) (slot + 1) (unwrap_or next 17) → ConnectiveTold all (is_some next) out count one c
+    → Connected sheet places spot from steps out count slot (unwrap_or next 17) one c
+connected next low high ready long all all_is found within follows told = record {
+  low = low;
+  high = omega arith;
+  ready = ready;
+  long = long;
+  all = all;
+  all_is = all_is;
+  found = found;
+  follows = follows;
+  joined = λ l. told.joined (some_below next l);
+  bare = λ g. told.bare (none_above next within g);
+}
+
+module _ {sheet places : List ℕ} {spot : Spot} {from : ℕ} {steps : List Listed} {out : List ℕ} {count slot next : ℕ}
+    {one : List ℕ} {c : ℕ}
     (x : Connected sheet places spot from steps out count slot next one c) where
   -- the count has not fallen
   connected_on : (count ≤ c) × (c ≤ 257)
   connected_on = cases (leb next 16)
-      (λ l. grows_on (x.joined (leb-true next 16 l)).0 x.near)
-      (λ l. let same = x.bare (leb-false next 16 l) in (omega (arith, same.1), omega (arith, same.1, x.near)))
+      (λ l. grows_on (x.joined (leb-true next 16 l)).0 (omega (arith, x.ready.most)))
+      (λ l. let same = x.bare (leb-false next 16 l) in (omega (arith, same.1), omega (arith, same.1, x.ready.most)))
 
   connected_size : length one ≡ length out
   connected_size = cases (leb next 16)
       (λ l. (x.joined (leb-true next 16 l)).0.size)
       (λ l. ap length (x.bare (leb-false next 16 l)).0)
 
-  pub connected_ready : Ready one steps spot c × (c ≤ 257)
-  connected_ready =
-      let r = x.ready in
-      let on = connected_on in
-      (record { frame = connected_size ∙ r.frame; list = r.list; near = omega (arith, r.near, on.0) }, on.1)
+  pub connected_ready : c ≤ 256 → Ready spot c
+  connected_ready l = record { near = omega (arith, x.ready.near, connected_on.0); most = l }
 
 -- and once it is put
-module _ {sheet places : List ℕ} {spot : Spot} {from : ℕ} {steps out : List ℕ} {count slot next : ℕ} {one : List ℕ} {c : ℕ}
-    (x : Connected sheet places spot from steps out count slot next one c) {steps₁ two : List ℕ} {d : ℕ}
+module _ {sheet places : List ℕ} {spot : Spot} {from : ℕ} {steps : List Listed} {out : List ℕ} {count slot next : ℕ}
+    {one : List ℕ} {c : ℕ}
+    (x : Connected sheet places spot from steps out count slot next one c) {steps₁ : List Listed} {two : List ℕ} {d : ℕ}
     (step : StepTold sheet places spot slot steps one c steps₁ two d) where
   first_grows : Grows out count two d
   first_grows = cases (leb next 16)
@@ -386,12 +444,8 @@ module _ {sheet places : List ℕ} {spot : Spot} {from : ℕ} {steps out : List 
   pub deeper_few : d ≤ 256 → (2 * spot.depth + 2 ≤ d) × (spot.q + get_or sheet (256 * slot + 1) 0 ≤ 4)
   deeper_few l = let w = step.written l in (omega (arith, w.1, (connected_on x).0, x.ready.near), w.2)
 
-  pub deeper_ready : (inner : ℕ) → d ≤ 256 → Ready two steps₁ (inside sheet spot inner slot) d
-  deeper_ready inner l = record {
-    frame = first_grows.size ∙ x.ready.frame;
-    list = step.kept.long ∙ x.ready.list;
-    near = omega (arith, (deeper_few l).0);
-  }
+  pub deeper_ready : (inner own : ℕ) → d ≤ 256 → Ready (inside spot inner own) d
+  deeper_ready inner own l = record { near = omega (arith, (deeper_few l).0); most = l }
 
   module _ {process : Process} {f g : Modal} {all : Bool} {A : Actions} {ss : List Step} (laid : Laid process f sheet places)
       (p : Spotted sheet spot (after all A g)) (st : Stacked process steps spot.depth ss) (some : 1 ≤ from) where
@@ -429,17 +483,17 @@ module _ {sheet places : List ℕ} {spot : Spot} {from : ℕ} {steps out : List 
         (condition_plain process.ranges this (summand_formed process f laid.formed (slot - 1) there))
         (step.told process f g all A (slot - 1) ss laid p.stands st slot_is there p.four) i
 
-    inside_emits : d ≤ 256 → {steps₂ three : List ℕ} {e : ℕ}
-        → SideTold sheet places (inside sheet spot (inner_place sheet spot.at) slot) steps₁ two d steps₂ three e
+    inside_emits : d ≤ 256 → {steps₂ : List Listed} {three : List ℕ} {e : ℕ}
+        → SideTold sheet places (spot_inside sheet spot slot) steps₁ two d steps₂ three e
         → EmitsFormula (spot.q + length this.own) formula_inside two d three e
     unfolding state_after
     inside_emits l i =
         let w = step.written l in
-        let room : 2 * spot.depth + 1 < length steps = omega (arith, (deeper_few l).0, x.ready.list) in
+        let room : spot.depth < length steps = omega (arith, (deeper_few l).0, x.long) in
         let stacked = stacked_more process steps spot.depth ss the_step st there p.four room in
-        let list = w.0 ∙ ap (λ (n : ℕ). sets steps (2 * spot.depth) (n ∷ spot.q ∷ [])) slot_is in
+        let list = w.0 ∙ ap (λ (n : ℕ). set steps spot.depth (listed n spot.q)) slot_is in
         rw own_is_count at (i.told process f g (the_step ∷ ss) laid (inside_spotted p slot w.2)
-        (subst (λ (l : List ℕ). Stacked process l (spot.depth + 1) (the_step ∷ ss)) (sym list) stacked))
+        (subst (λ (l : List Listed). Stacked process l (spot.depth + 1) (the_step ∷ ss)) (sym list) stacked))
       where
         own_is_count : get_or sheet (256 * slot + 1) 0 ≡ length this.own
         own_is_count = own_of refl (slot - 1) laid.sheet_is slot_is there
@@ -502,20 +556,24 @@ module _ {sheet places : List ℕ} {spot : Spot} {from : ℕ} {steps out : List 
         (λ l. last_emits laid p st some (leb-false next 16 l) (emits_full g refl));
   }
 
-  module _ (short : d ≤ 256) {steps₂ three : List ℕ} {e : ℕ}
-      (i : SideTold sheet places (inside sheet spot (inner_place sheet spot.at) slot) steps₁ two d steps₂ three e) where
-    pub later_ready : Ready three steps₂ spot e × (e ≤ 257)
-    later_ready = (
-      record {
-        frame = i.grows.size ∙ first_grows.size ∙ x.ready.frame;
-        list = i.kept.long ∙ step.kept.long ∙ x.ready.list;
-        near = omega (arith, (deeper_few short).0, i.grows.more short);
-      },
-      i.grows.most,
-    )
+  module _ (short : d ≤ 256) {steps₂ : List Listed} {three : List ℕ} {e : ℕ}
+      (i : SideTold sheet places (spot_inside sheet spot slot) steps₁ two d steps₂ three e) where
+    pub later_ready : e ≤ 256 → Ready spot e
+    later_ready l = record { near = omega (arith, (deeper_few short).0, i.grows.more short); most = l }
 
     inner_kept : Kept steps spot steps₂
     inner_kept = kept_then step.kept (kept_around spot (omega arith) i.kept)
+
+    -- there was no more room
+    pub summands_over : 256 < e → SummandsTold sheet places spot from steps out count steps₂ three 257
+    summands_over g = record {
+      grows = grows_no (grows_then first_grows i.grows).size;
+      kept = inner_kept;
+      told = λ process f h all A ss laid p st some. cases (leb next 16)
+          (λ l. more_emits laid p st some (leb-true next 16 l) (inside_emits laid p st some short i) (emits_full g refl))
+          (λ l. let full : e ≡ 257 = omega (arith, i.grows.most) in
+          last_emits laid p st some (leb-false next 16 l) (rw (← full) (inside_emits laid p st some short i)));
+    }
 
     pub summands_last : 16 < next → SummandsTold sheet places spot from steps out count steps₂ three e
     summands_last g = record {
@@ -524,7 +582,7 @@ module _ {sheet places : List ℕ} {spot : Spot} {from : ℕ} {steps out : List 
       told = λ process f h all A ss laid p st some. last_emits laid p st some g (inside_emits laid p st some short i);
     }
 
-    pub summands_more : {steps₃ left : List ℕ} {r : ℕ} → next ≤ 16
+    pub summands_more : {steps₃ : List Listed} {left : List ℕ} {r : ℕ} → next ≤ 16
         → SummandsTold sheet places spot next steps₂ three e steps₃ left r
         → SummandsTold sheet places spot from steps out count steps₃ left r
     summands_more l rest = record {

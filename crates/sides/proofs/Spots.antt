@@ -7,7 +7,10 @@ use mathlib.Core.Bool.{Bool, true, false, cond}
 use mathlib.Core.List.{List, [], ◌∷◌, ◌++◌}
 use lib.Dec.{eqb}
 use lib.ListN.{length, get_or}
-use Rattle.meaning.specs.Logic.{Is, and_l, and_r}
+use borrow.Author.Tests.{eqb-true, eqb-false, ne_eqb}
+use Rattle.std.specs.Prelude.{Some, Result, Ok, Err}
+use Rattle.std.specs.Result.{OkIff, result_ok, is_ok}
+use Rattle.meaning.specs.Logic.{Is, and_l, and_r, cases}
 use Rattle.spelling.specs.Spelled.{either_code}
 use Rattle.spelling.specs.Stands as stand
 use Rattle.spelling.specs.Stands.{Stands, stands_inside}
@@ -22,9 +25,15 @@ use Rattle.scans.specs.Formulas.{is_fixed, Skips}
 use Rattle.scans.specs.declared.Skipped.{Skipped}
 use Rattle.scans.proofs.ScannedFormulas.{modal_code, modal_opened, code_told, actions_width}
 use Rattle.sides.specs.declared.Spot.{Spot}
-use Rattle.sides.specs.Told.{kind, before_of, equation_number, inner_place, inside, moved, Spotted}
+use Rattle.sides.specs.Told.{before_of, equation_number, inner_place, inside, moved, Spotted}
 
 -- ---- codes
+-- what a code begins: a connective, a box or a diamond, a fixed point, the variable of one, or none of these
+unfoldable pub kind : ℕ → ℕ
+kind code =
+    cond (eqb code 0x12) 1 (cond (eqb code 0x13) 1 (cond (eqb code 0x30) 2 (cond (eqb code 0x31) 2
+    (cond (eqb code 0x32) 3 (cond (eqb code 0x33) 3 (cond (eqb code 0x34) 4 0))))))
+
 abbrev pub modal_kind : Modal → ℕ
 modal_kind (truth b) = 0
 modal_kind (combined all f g) = 1
@@ -43,6 +52,37 @@ kind_told (after false A f) = refl
 kind_told (fixed_point true f) = refl
 kind_told (fixed_point false f) = refl
 kind_told (of_fixed_point n) = refl
+
+pub kind_joined : {code : ℕ} → 0x12 ≤ code → code < 0x14 → kind code ≡ 1
+unfolding kind
+kind_joined {code} low high = cases (eqb code 0x12)
+    (λ t. rw t refl)
+    (λ f. let e : code ≡ 0x13 = omega (arith, eqb-false code 0x12 f) in rw e refl)
+
+pub kind_box : {code : ℕ} → 0x30 ≤ code → code < 0x32 → kind code ≡ 2
+unfolding kind
+kind_box {code} low high = cases (eqb code 0x30)
+    (λ t. let e = eqb-true code 0x30 t in rw e refl)
+    (λ f. let e : code ≡ 0x31 = omega (arith, eqb-false code 0x30 f) in rw e refl)
+
+pub kind_fixed : {code : ℕ} → 0x32 ≤ code → code < 0x34 → kind code ≡ 3
+unfolding kind
+kind_fixed {code} low high = cases (eqb code 0x32)
+    (λ t. let e = eqb-true code 0x32 t in rw e refl)
+    (λ f. let e : code ≡ 0x33 = omega (arith, eqb-false code 0x32 f) in rw e refl)
+
+pub kind_other : {code : ℕ} → (0x12 ≤ code → code < 0x14 → ⊥) → (0x30 ≤ code → code < 0x35 → ⊥) → kind code ≡ 0
+unfolding kind
+kind_other {code} joins rest =
+    rw (
+      ne_eqb code 0x12 (λ e. joins (omega arith) (omega arith)),
+      ne_eqb code 0x13 (λ e. joins (omega arith) (omega arith)),
+      ne_eqb code 0x30 (λ e. rest (omega arith) (omega arith)),
+      ne_eqb code 0x31 (λ e. rest (omega arith) (omega arith)),
+      ne_eqb code 0x32 (λ e. rest (omega arith) (omega arith)),
+      ne_eqb code 0x33 (λ e. rest (omega arith) (omega arith)),
+      ne_eqb code 0x34 (λ e. rest (omega arith) (omega arith)),
+    ) refl
 
 pub first_code : (s : List ℕ) (at : ℕ) (g : Modal) → Stands s at (spelled_modal g) → get_or s at 0 ≡ modal_code g
 first_code s at g h = stand.first s at _ _ (subst (Stands s at) (modal_opened g) h)
@@ -193,9 +233,13 @@ inner_on sheet at = either (eqb (get_or sheet (4353 + at) 0) 0x11)
     either true = omega arith
     either false = omega arith
 
+-- the spot of the formula inside, after the step of the summand in a place
+abbrev pub spot_inside : List ℕ → Spot → ℕ → Spot
+spot_inside sheet spot slot = inside spot (inner_place sheet spot.at) (get_or sheet (256 * slot + 1) 0)
+
 module _ {sheet : List ℕ} {spot : Spot} {all : Bool} {A : Actions} {g : Modal} (p : Spotted sheet spot (after all A g)) where
   pub inside_spotted : (slot : ℕ) → spot.q + get_or sheet (256 * slot + 1) 0 ≤ 4
-      → Spotted sheet (inside sheet spot (inner_place sheet spot.at) slot) g
+      → Spotted sheet (spot_inside sheet spot slot) g
   unfolding well_formed_formula fixed_points
   inside_spotted slot l = record {
     stands = inner_stands sheet spot.at all A g p.stands;
@@ -205,6 +249,15 @@ module _ {sheet : List ℕ} {spot : Spot} {all : Bool} {A : Actions} {g : Modal}
     few = p.few;
     four = l;
   }
+
+-- ---- a number as a byte: there is one where it is below 256
+pub same_byte : {E : Type 0} {n b : ℕ} (r : Result ℕ E) → OkIff r (n < 256) n → Some b ≡ result_ok r → b ≡ n
+same_byte (Ok x) h e = let is = h.1 in cc
+same_byte (Err x) h e = absurd cc
+
+pub no_byte : {E : Type 0} {n : ℕ} (r : Result ℕ E) → OkIff r (n < 256) n → false ≡ is_ok r → 255 < n
+no_byte (Ok x) h e = absurd cc
+no_byte (Err x) h e = omega (arith, h)
 
 -- ---- fixed points and their variables: the numbers are small
 pub fixed_small : {sheet : List ℕ} {spot : Spot} {greatest : Bool} {g : Modal} → Spotted sheet spot (fixed_point greatest g)

@@ -1,11 +1,10 @@
 -- The terms that stand for the variables of a step's summand: the parameters after the steps before it, and its own.
 -- The rules say how many there are; a parameter after a step is the next-state term with the terms before it put in.
-use Prim.Native.Nat.{ℕ, zero, suc, ◌+◌, ◌-◌, ◌*◌, ◌≤◌, ◌<◌}
+use Prim.Native.Nat.{ℕ, zero, suc, ◌+◌, ◌-◌, ◌≤◌, ◌<◌}
 use native.Mathlib.Omega.{arith}
 use mathlib.Core.Path.{◌≡◌, refl, sym, ap, ◌∙◌, subst}
 use mathlib.Core.List.{List, [], ◌∷◌, ◌++◌}
 use lib.ListN.{length, get_or, length-append, length-map, get_or-map, get_or-append}
-use borrow.Author.Tests.{ne_eqb}
 use Rattle.meaning.specs.Logic.{Is, never, and_l, and_r}
 use Rattle.meaning.specs.Formulas.{Term, number, variable}
 use Rattle.meaning.specs.Ranges.{sound_term, sound_terms, arguments_fit}
@@ -19,7 +18,8 @@ use Rattle.translation.specs.Translation.{substituted_term, variables_from}
 use Rattle.inputs.specs.Inputs.{no_summand}
 use Rattle.inputs.specs.InputFrames.{process_frame}
 use Rattle.scans.specs.Summands.{nth_summand}
-use Rattle.sides.specs.Steps.{Step, state_after, terms_in, Stacked, none, more, slot_in, quantifiers_in}
+use Rattle.sides.specs.declared.Listed.{Listed}
+use Rattle.sides.specs.Steps.{Step, state_after, terms_in, Stacked, none, more, listed, no_step, nth_step}
 use Rattle.sides.specs.Told.{Laid}
 
 -- ---- lists of terms
@@ -83,15 +83,15 @@ module _ (process : Process) (f : Modal) (h : Is (well_formed_input process f)) 
       nth_sound _ (nth_summand process j).next x (next_sound ranges (nth_summand process j) (summand_formed j l))
       (omega (arith, term_for_each j l))
 
-  pub state_length : {steps : List ℕ} {n : ℕ} (ss : List Step) → Stacked process steps n ss
+  pub state_length : {steps : List Listed} {n : ℕ} (ss : List Step) → Stacked process steps n ss
       → length (state_after process ss) ≡ length ranges
   unfolding state_after
   state_length [] none = variables_length 0 ranges
-  state_length (s ∷ ss) (more l q i b k) =
+  state_length (s ∷ ss) (more l q i k) =
       length-map (nth_summand process s.index).next _ ∙ term_for_each s.index l
 
   -- what the variables of a step's summand are
-  module _ {steps : List ℕ} {n : ℕ} (s : Step) (ss : List Step) (stacked : Stacked process steps n ss) where
+  module _ {steps : List Listed} {n : ℕ} (s : Step) (ss : List Step) (stacked : Stacked process steps n ss) where
     pub parameter_in : (x : ℕ) → x < length ranges
         → get_or (terms_in process s ss) x (number 0) ≡ get_or (state_after process ss) x (number 0)
     parameter_in x l =
@@ -122,34 +122,35 @@ state_next process s ss x =
     get_or-map (substituted_term (terms_in process s ss)) (nth_summand process s.index).next x (number 0)
 
 -- ---- the steps in their list
-pub record LastStep (process : Process) (steps : List ℕ) (n : ℕ) (s : Step) (ss : List Step) : Type 0 where
+pub record LastStep (process : Process) (steps : List Listed) (n : ℕ) (s : Step) (ss : List Step) : Type 0 where
   pub some : 1 ≤ n
   pub there : s.index < length process.summands
   pub few : s.quantifiers ≤ 4
-  pub slot : slot_in steps n ≡ s.index + 1
-  pub around : quantifiers_in steps n ≡ s.quantifiers
+  pub slot : (nth_step steps n).slot ≡ s.index + 1
+  pub around : (nth_step steps n).quantifiers ≡ s.quantifiers
   pub before : Stacked process steps (n - 1) ss
 
-pub last_step : {process : Process} {steps : List ℕ} {n : ℕ} {s : Step} {ss : List Step}
+pub last_step : {process : Process} {steps : List Listed} {n : ℕ} {s : Step} {ss : List Step}
     → Stacked process steps n (s ∷ ss) → LastStep process steps n s ss
-last_step {process} {steps} (more {n} {s} {ss} l q i b rest) =
-    let first : 2 * suc n - 2 ≡ 2 * n = omega arith in
-    let second : 2 * suc n - 1 ≡ 2 * n + 1 = omega arith in
+last_step {process} {steps} (more {n} {s} {ss} l q i rest) =
     let back : suc n - 1 ≡ n = omega arith in
+    let here : nth_step steps (suc n) ≡ listed (s.index + 1) s.quantifiers =
+    ap (λ (m : ℕ). get_or steps m no_step) back ∙ i in
     record {
       some = omega arith;
       there = l;
       few = q;
-      slot = rw (ne_eqb (suc n) 0 (λ e. omega arith)) (ap (λ (m : ℕ). get_or steps m 0) first ∙ i);
-      around = rw (ne_eqb (suc n) 0 (λ e. omega arith)) (ap (λ (m : ℕ). get_or steps m 0) second ∙ b);
+      slot = ap (λ (x : Listed). x.slot) here;
+      around = ap (λ (x : Listed). x.quantifiers) here;
       before = subst (λ (m : ℕ). Stacked process steps m ss) (sym back) rest;
     }
 
-pub no_step : {process : Process} {steps : List ℕ} {ss : List Step} (n : ℕ) → n ≡ 0 → Stacked process steps n ss → ss ≡ []
-no_step zero e none = refl
-no_step (suc n) e (more l q i b rest) = absurd (omega arith)
+pub none_before : {process : Process} {steps : List Listed} {ss : List Step} (n : ℕ) → n ≡ 0 → Stacked process steps n ss
+    → ss ≡ []
+none_before zero e none = refl
+none_before (suc n) e (more l q i rest) = absurd (omega arith)
 
-pub none_around : {process : Process} {steps : List ℕ} {n : ℕ} → Stacked process steps n [] → n ≡ 0
+pub none_around : {process : Process} {steps : List Listed} {n : ℕ} → Stacked process steps n [] → n ≡ 0
 none_around none = refl
 
 -- ---- how many parameters there are, as it stands on the sheet

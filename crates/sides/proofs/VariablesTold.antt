@@ -15,11 +15,12 @@ use Rattle.translation.specs.Modal.{Modal}
 use Rattle.scans.specs.Items.{term, spelled_item}
 use Rattle.scans.specs.Summands.{nth_summand, next_place}
 use Rattle.scans.proofs.SummandFrames.{term_stands}
+use Rattle.sides.specs.declared.Listed.{Listed}
 use Rattle.sides.specs.Emitted.{Emits, Puts}
-use Rattle.sides.specs.Steps.{Step, Stacked, state_after, item_after, slot_in, quantifiers_in}
+use Rattle.sides.specs.Steps.{Step, Stacked, state_after, item_after, nth_step}
 use Rattle.sides.specs.Told.{Laid, PartTold, VariableTold}
 use Rattle.sides.proofs.EmittedLaws.{emits_as}
-use Rattle.sides.proofs.StateLaws.{last_step, no_step, none_around, parameters_there, own_in, state_first, state_next}
+use Rattle.sides.proofs.StateLaws.{last_step, none_before, none_around, parameters_there, own_in, state_first, state_next}
 use Rattle.sides.proofs.StateLaws.{few_parameters, few_own, term_for_each, term_sound}
 
 spelled_variable : {t : Term} (x : ℕ) → t ≡ variable x → spelled_term t ≡ 0x21 ∷ x ∷ []
@@ -27,9 +28,9 @@ unfolding spelled_term
 spelled_variable x e = ap spelled_term e
 
 module _ {sheet : List ℕ} {x : ℕ} {out : List ℕ} {count : ℕ} {left : List ℕ} {r : ℕ} (places : List ℕ) (step : ℕ)
-    (steps : List ℕ) where
+    (steps : List Listed) where
   -- one of its own
-  pub own_told : (q b : ℕ) → get_or sheet 1 0 ≤ x → q ≡ quantifiers_in steps step → b ≡ (q + x) % 256
+  pub own_told : (q b : ℕ) → get_or sheet 1 0 ≤ x → q ≡ (nth_step steps step).quantifiers → b ≡ (q + x) % 256
       → Puts true (0x21 ∷ b ∷ []) out count left r → VariableTold sheet places x step steps out count left r
   own_told q b high around byte puts = record {
     grows = puts.0;
@@ -58,14 +59,15 @@ module _ {sheet : List ℕ} {x : ℕ} {out : List ℕ} {count : ℕ} {left : Lis
   first_told low one puts = record {
     grows = puts.0;
     parameter = λ process f ss laid stacked l.
-        let none = no_step (step - 1) (omega arith) stacked in
+        let none = none_before (step - 1) (omega arith) stacked in
         let value = ap (λ (l : List Step). get_or (state_after process l) x (number 0)) none ∙ state_first process x l in
         emits_as (sym (spelled_variable x value)) puts.1;
     own = λ process f s ss laid stacked l m. absurd (omega (arith, parameters_there laid));
   }
 
   -- a parameter after a step
-  module _ (n at slot : ℕ) (low : x < get_or sheet 1 0) (some : 1 ≤ n) (back : n ≡ step - 1) (summand : slot ≡ slot_in steps n)
+  module _ (n at slot : ℕ) (low : x < get_or sheet 1 0) (some : 1 ≤ n) (back : n ≡ step - 1)
+      (summand : slot ≡ (nth_step steps n).slot)
       (place : at ≡ get_or places (5 * slot + 1 + x) 0)
       (p : PartTold sheet places (record { at = at; step = n; flip = false }) steps out count left r) where
     after_step : (process : Process) (f : Modal) (ss : List Step) → Laid process f sheet places → Stacked process steps n ss

@@ -1,6 +1,6 @@
 -- The steps around a formula, the last one first, and what the parameters are after them.
 -- A step is a summand of the process, by its number, and how many quantifiers are around it.
-use Rattle.std.specs.Prelude.{ℕ, suc, ◌+◌, ◌-◌, ◌*◌, ◌≤◌, ◌<◌, ◌≡◌, Bool, true, false, cond, List, [], ◌∷◌}
+use Rattle.std.specs.Prelude.{ℕ, suc, ◌+◌, ◌-◌, ◌≤◌, ◌<◌, ◌≡◌, Bool, true, false, cond, List, [], ◌∷◌}
 use Rattle.std.specs.Prelude.{◌++◌, eqb, length, get_or}
 use Rattle.meaning.specs.Formulas.{Term}
 use Rattle.meaning.specs.Ranges.{sound_term, sound}
@@ -10,10 +10,22 @@ use Rattle.translation.specs.Translation.{substituted_term, substituted_terms, s
 use Rattle.translation.specs.Translation.{variables_from, reach}
 use Rattle.scans.specs.Items.{Item, condition, term}
 use Rattle.scans.specs.Summands.{nth_summand}
+use Rattle.sides.specs.declared.Listed.{Listed}
 
 pub record Step : Type 0 where
   pub index : ℕ
   pub quantifiers : ℕ
+
+-- a step in their list: the place of its summand in the sheet, and the quantifiers around it
+abbrev pub listed : ℕ → ℕ → Listed
+listed slot q = record { slot = slot; quantifiers = q }
+
+abbrev pub no_step : Listed
+no_step = listed 0 0
+
+-- step n, counted from 1
+abbrev pub nth_step : List Listed → ℕ → Listed
+nth_step steps n = get_or steps (n - 1) no_step
 
 module _ (process : Process) where
   -- the terms that stand for the parameters after some steps
@@ -27,12 +39,12 @@ module _ (process : Process) where
   abbrev pub terms_in : Step → List Step → List Term
   terms_in s ss = reach process (state_after ss) s.quantifiers (nth_summand process s.index)
 
-  -- the steps in a list of two bytes for each, the first one first
-  pub data Stacked (steps : List ℕ) : ℕ → List Step → Type 0 where
+  -- the steps in their list, the first one first
+  pub data Stacked (steps : List Listed) : ℕ → List Step → Type 0 where
     none : Stacked steps 0 []
     more : {n : ℕ} {s : Step} {ss : List Step} → s.index < length process.summands → s.quantifiers ≤ 4
-        → get_or steps (2 * n) 0 ≡ s.index + 1 → get_or steps (2 * n + 1) 0 ≡ s.quantifiers
-        → Stacked steps n ss → Stacked steps (suc n) (s ∷ ss)
+        → get_or steps n no_step ≡ listed (s.index + 1) s.quantifiers → Stacked steps n ss
+        → Stacked steps (suc n) (s ∷ ss)
 
 -- a condition, negated where `flip`, or a term, with the terms σ in place of the variables
 unfoldable pub item_after : List Term → Bool → Item → List ℕ
@@ -55,10 +67,3 @@ flipped true code =
     cond (eqb code 0x10) 0x11 (cond (eqb code 0x11) 0x10 (cond (eqb code 0x12) 0x13
     (cond (eqb code 0x13) 0x12 (cond (eqb code 0x16) 0x18 (cond (eqb code 0x17) 0x19
     (cond (eqb code 0x18) 0x16 (cond (eqb code 0x19) 0x17 code)))))))
-
--- of step n, counted from 1, the place of its summand in the sheet, and the quantifiers around it
-abbrev pub slot_in : List ℕ → ℕ → ℕ
-slot_in steps n = cond (eqb n 0) 0 (get_or steps (2 * n - 2) 0)
-
-abbrev pub quantifiers_in : List ℕ → ℕ → ℕ
-quantifiers_in steps n = cond (eqb n 0) 0 (get_or steps (2 * n - 1) 0)

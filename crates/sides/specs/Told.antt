@@ -1,9 +1,9 @@
 -- What is promised of right sides that are put: for any sheet that counts stay in bounds, and where a process
 -- and a formula are laid out on it, which bytes they are.
 -- In what follows `out` and `left` are the frame before and after, `count` and r how many bytes are in it.
-use Rattle.std.specs.Prelude.{ℕ, ◌+◌, ◌-◌, ◌*◌, ◌≤◌, ◌<◌, ◌≡◌, Bool, true, cond, List, [], ◌∷◌, ◌++◌, map}
-use Rattle.std.specs.Prelude.{eqb, leb, ltb, length, get_or, take, drop}
-use Rattle.std.proofs.lemmas.List.Edits.{sets}
+use Rattle.std.specs.Prelude.{ℕ, ◌+◌, ◌-◌, ◌*◌, ◌≤◌, ◌<◌, ◌≡◌, Bool, true, false, cond, List, [], ◌∷◌, ◌++◌}
+use Rattle.std.specs.Prelude.{map}
+use Rattle.std.specs.Prelude.{eqb, leb, ltb, length, get_or, take, drop, slice_set}
 use Rattle.meaning.specs.Logic.{Is}
 use Rattle.meaning.specs.Formulas.{Formula, instance, number}
 use Rattle.spelling.specs.Stands.{Stands}
@@ -19,10 +19,11 @@ use Rattle.inputs.specs.Sheet.{Sheet}
 use Rattle.scans.specs.Formulas.{is_fixed}
 use Rattle.scans.specs.Items.{Item, plain_item, spelled_item}
 use Rattle.scans.specs.Summands.{nth_summand, Placed}
+use Rattle.sides.specs.declared.Listed.{Listed}
 use Rattle.sides.specs.declared.Spot.{Spot}
 use Rattle.sides.specs.declared.Part.{Part}
-use Rattle.sides.specs.Emitted.{Emits, Grows}
-use Rattle.sides.specs.Steps.{Step, state_after, terms_in, Stacked, item_after, sound_item}
+use Rattle.sides.specs.Emitted.{Emits, Grows, Puts}
+use Rattle.sides.specs.Steps.{Step, listed, state_after, terms_in, Stacked, item_after, sound_item}
 
 -- a process and a formula on a sheet, with the places of their summands' parts
 pub record Laid (process : Process) (f : Modal) (sheet places : List ℕ) : Type 0 where
@@ -36,7 +37,8 @@ abbrev pub code_bytes : ℕ → ℕ → List ℕ
 code_bytes code operand = cond (ltb code 0x20) (code ∷ []) (code ∷ operand ∷ [])
 
 -- a condition or a term of the last step's summand
-pub record PartTold (sheet places : List ℕ) (part : Part) (steps out : List ℕ) (count : ℕ) (left : List ℕ)
+pub record PartTold (sheet places : List ℕ) (part : Part) (steps : List Listed) (out : List ℕ) (count : ℕ)
+    (left : List ℕ)
     (r : ℕ) : Type 0 where
   pub grows : Grows out count left r
   pub told : (process : Process) (f : Modal) (s : Step) (ss : List Step) (i : Item)
@@ -46,7 +48,8 @@ pub record PartTold (sheet places : List ℕ) (part : Part) (steps out : List �
       → Emits true (item_after (terms_in process s ss) part.flip i) out count left r
 
 -- a variable of the last step's summand; a parameter needs no more than the steps before it
-pub record VariableTold (sheet places : List ℕ) (x step : ℕ) (steps out : List ℕ) (count : ℕ) (left : List ℕ)
+pub record VariableTold (sheet places : List ℕ) (x step : ℕ) (steps : List Listed) (out : List ℕ) (count : ℕ)
+    (left : List ℕ)
     (r : ℕ) : Type 0 where
   pub grows : Grows out count left r
   pub parameter : (process : Process) (f : Modal) (ss : List Step) → Laid process f sheet places
@@ -60,7 +63,8 @@ pub record VariableTold (sheet places : List ℕ) (x step : ℕ) (steps out : Li
       count left r
 
 -- the instance of an equation at what the parameters are after some steps
-pub record InstanceTold (sheet places : List ℕ) (equation depth : ℕ) (steps out : List ℕ) (count : ℕ)
+pub record InstanceTold (sheet places : List ℕ) (equation depth : ℕ) (steps : List Listed) (out : List ℕ)
+    (count : ℕ)
     (left : List ℕ) (r : ℕ) : Type 0 where
   pub grows : Grows out count left r
   pub told : (process : Process) (f : Modal) (ss : List Step) → Laid process f sheet places
@@ -86,35 +90,24 @@ pub record QuantifiersTold (sheet : List ℕ) (slot : ℕ) (all : Bool) (out : L
 abbrev pub before_of : Modal → ℕ
 before_of f = cond (begins_with_fixed_point f) 0 1
 
--- what a code begins: a connective, a box or a diamond, a fixed point, the variable of one, or none of these
-unfoldable pub kind : ℕ → ℕ
-kind code =
-    cond (eqb code 0x12) 1 (cond (eqb code 0x13) 1 (cond (eqb code 0x30) 2 (cond (eqb code 0x31) 2
-    (cond (eqb code 0x32) 3 (cond (eqb code 0x33) 3 (cond (eqb code 0x34) 4 0))))))
-
 abbrev pub equation_number : List ℕ → ℕ → ℕ
 equation_number sheet n = cond (is_fixed (get_or sheet 4353 0)) n (n + 1)
 
 abbrev pub inner_place : List ℕ → ℕ → ℕ
 inner_place sheet at = cond (eqb (get_or sheet (4353 + at) 0) 0x11) (at + 2) (at + 3)
 
-abbrev pub inside : List ℕ → Spot → ℕ → ℕ → Spot
-inside sheet spot inner slot = record {
-  at = inner;
-  number = spot.number;
-  depth = spot.depth + 1;
-  q = spot.q + get_or sheet (256 * slot + 1) 0;
-}
+abbrev pub inside : Spot → ℕ → ℕ → Spot
+inside spot inner own =
+    record { at = inner; number = spot.number; depth = spot.depth + 1; q = spot.q + own }
 
 abbrev pub moved : Spot → ℕ → ℕ → Spot
 moved spot at count =
     record { at = at; number = spot.number + count; depth = spot.depth; q = spot.q }
 
--- the room that is lent, and that each step around has put two bytes
-pub record Ready (out steps : List ℕ) (spot : Spot) (count : ℕ) : Type 0 where
-  pub frame : length out ≡ 256
-  pub list : length steps ≡ 256
+-- each step around has put two bytes
+pub record Ready (spot : Spot) (count : ℕ) : Type 0 where
   pub near : 2 * spot.depth ≤ count
+  pub most : count ≤ 256
 
 -- the formula g at a spot: the fixed points around it have numbers below 8, and so have its own
 pub record Spotted (sheet : List ℕ) (spot : Spot) (g : Modal) : Type 0 where
@@ -126,9 +119,9 @@ pub record Spotted (sheet : List ℕ) (spot : Spot) (g : Modal) : Type 0 where
   pub four : spot.q ≤ 4
 
 -- the steps around a spot are as before
-pub record Kept (steps : List ℕ) (spot : Spot) (steps_left : List ℕ) : Type 0 where
+pub record Kept (steps : List Listed) (spot : Spot) (steps_left : List Listed) : Type 0 where
   pub long : length steps_left ≡ length steps
-  pub same : take (2 * spot.depth) steps_left ≡ take (2 * spot.depth) steps
+  pub same : take spot.depth steps_left ≡ take spot.depth steps
 
 -- the formula that stands for g at a spot, after the steps around it
 abbrev pub side_of : Process → Modal → Spot → List Step → Modal → Formula
@@ -139,8 +132,8 @@ side_of process f spot ss g =
 abbrev pub EmitsFormula : ℕ → Formula → List ℕ → ℕ → List ℕ → ℕ → Type 0
 EmitsFormula q h out count left r = Emits (four_quantifiers q h) (spelled h) out count left r
 
-pub record SideTold (sheet places : List ℕ) (spot : Spot) (steps out : List ℕ) (count : ℕ)
-    (steps_left left : List ℕ) (r : ℕ) : Type 0 where
+pub record SideTold (sheet places : List ℕ) (spot : Spot) (steps : List Listed) (out : List ℕ) (count : ℕ)
+    (steps_left : List Listed) (left : List ℕ) (r : ℕ) : Type 0 where
   pub grows : Grows out count left r
   pub kept : Kept steps spot steps_left
   pub told : (process : Process) (f g : Modal) (ss : List Step) → Laid process f sheet places
@@ -148,8 +141,8 @@ pub record SideTold (sheet places : List ℕ) (spot : Spot) (steps out : List �
       → EmitsFormula spot.q (side_of process f spot ss g) out count left r
 
 -- the same where the formula is an `and` or an `or`
-pub record BothTold (sheet places : List ℕ) (spot : Spot) (steps out : List ℕ) (count : ℕ)
-    (steps_left left : List ℕ) (r : ℕ) : Type 0 where
+pub record BothTold (sheet places : List ℕ) (spot : Spot) (steps : List Listed) (out : List ℕ) (count : ℕ)
+    (steps_left : List Listed) (left : List ℕ) (r : ℕ) : Type 0 where
   pub grows : Grows out count left r
   pub kept : Kept steps spot steps_left
   pub told : (process : Process) (f g h : Modal) (all : Bool) (ss : List Step) → Laid process f sheet places
@@ -157,7 +150,8 @@ pub record BothTold (sheet places : List ℕ) (spot : Spot) (steps out : List �
       → EmitsFormula spot.q (side_of process f spot ss (combined all g h)) out count left r
 
 -- a fixed point, or its variable: the instance of its equation
-pub record FixedTold (sheet places : List ℕ) (spot : Spot) (number : ℕ) (steps out : List ℕ) (count : ℕ)
+pub record FixedTold (sheet places : List ℕ) (spot : Spot) (number : ℕ) (steps : List Listed) (out : List ℕ)
+    (count : ℕ)
     (left : List ℕ) (r : ℕ) : Type 0 where
   pub grows : Grows out count left r
   pub told : (process : Process) (f : Modal) (ss : List Step) → Laid process f sheet places → number < 255
@@ -165,11 +159,12 @@ pub record FixedTold (sheet places : List ℕ) (spot : Spot) (number : ℕ) (ste
       → Emits true (spelled (instance (number + before_of f) (state_after process ss))) out count left r
 
 -- one step: what stands before the formula inside, and the step written down
-pub record StepTold (sheet places : List ℕ) (spot : Spot) (slot : ℕ) (steps out : List ℕ) (count : ℕ)
-    (steps_left left : List ℕ) (r : ℕ) : Type 0 where
+pub record StepTold (sheet places : List ℕ) (spot : Spot) (slot : ℕ) (steps : List Listed) (out : List ℕ)
+    (count : ℕ)
+    (steps_left : List Listed) (left : List ℕ) (r : ℕ) : Type 0 where
   pub grows : Grows out count left r
   pub kept : Kept steps spot steps_left
-  pub written : r ≤ 256 → (steps_left ≡ sets steps (2 * spot.depth) (slot ∷ spot.q ∷ [])) × (count + 2 ≤ r)
+  pub written : r ≤ 256 → (steps_left ≡ slice_set steps spot.depth (listed slot spot.q)) × (count + 2 ≤ r)
       × (spot.q + get_or sheet (256 * slot + 1) 0 ≤ 4)
   pub told : (process : Process) (f g : Modal) (all : Bool) (A : Actions) (j : ℕ) (ss : List Step)
       → Laid process f sheet places → Stands sheet (4352 + spot.at) (spelled_modal (after all A g))
@@ -181,9 +176,15 @@ pub record StepTold (sheet places : List ℕ) (spot : Spot) (slot : ℕ) (steps 
       (substituted ts (guard all s.condition))))
       out count left r
 
+-- the connective before a step, where there are more behind it
+pub record ConnectiveTold (all more : Bool) (out : List ℕ) (count : ℕ) (left : List ℕ) (r : ℕ) : Type 0 where
+  pub joined : more ≡ true → Puts true (either_code all 0x12 0x13 ∷ []) out count left r
+  pub bare : more ≡ false → (left ≡ out) × (r ≡ count)
+
 -- a box or a diamond over the matching summands from a place of the sheet on
-pub record SummandsTold (sheet places : List ℕ) (spot : Spot) (from : ℕ) (steps out : List ℕ) (count : ℕ)
-    (steps_left left : List ℕ) (r : ℕ) : Type 0 where
+pub record SummandsTold (sheet places : List ℕ) (spot : Spot) (from : ℕ) (steps : List Listed) (out : List ℕ)
+    (count : ℕ)
+    (steps_left : List Listed) (left : List ℕ) (r : ℕ) : Type 0 where
   pub grows : Grows out count left r
   pub kept : Kept steps spot steps_left
   pub told : (process : Process) (f g : Modal) (all : Bool) (A : Actions) (ss : List Step)

@@ -2,7 +2,7 @@
 -- The rows of a graph say which instances an equation of its system has; so all is shown by the laws of the system.
 use Prim.Native.Nat.{ℕ, suc, ◌+◌, ◌-◌, ◌≤◌, ◌<◌}
 use native.Mathlib.Omega.{arith}
-use native.Mathlib.Decide.{ℕ_discrete, dec_lt}
+use native.Mathlib.Decide.{ℕ_discrete}
 use mathlib.Core.Path.{◌≡◌, refl, sym, subst, ap, ◌∙◌}
 use mathlib.Core.Bool.{Bool, true, false, not, ◌&&◌, ◌||◌, true≢false, and-true, and-false, or-true, or-false}
 use mathlib.Core.List.{List}
@@ -10,8 +10,10 @@ use lib.ListN.{length}
 use borrow.Author.Tests.{ltb-true}
 use Rattle.meaning.specs.Logic.{cases}
 use Rattle.formulas.specs.declared.Equation.{Equation}
+use Rattle.std.specs.Prelude.{Some, None}
 use Rattle.truth.specs.Bits.{bit_of, nowhere}
-use Rattle.truth.specs.Rows.{row_of, unlike_in, joined, last_below}
+use Rattle.truth.specs.Rows.{row_of, unlike_in, joined, LastOf}
+use Rattle.truth.proofs.RowLaws.{last_member}
 use Rattle.systems.specs.Numbered.{Truths, Numbered, Proper}
 use Rattle.systems.specs.Solved.{solved}
 use Rattle.systems.specs.Rounds.{Quiet, Midway, Restored, Spread, Begun}
@@ -23,7 +25,7 @@ use Rattle.instances.proofs.SystemLaws.{of_named, system_proper}
 use Rattle.instances.proofs.GraphLaws.{system_hangs}
 use Rattle.solving.specs.declared.steps.Progress.{Progress}
 use Rattle.solving.specs.Rounds.{equation_of, KeptBy, Midst, Calm, Looks, SetsBack, Begins, LastDirty, Rounds, Settles}
-use Rattle.solving.proofs.StepLaws.{last_in_row, none_in_row, members_are}
+use Rattle.solving.proofs.StepLaws.{none_in_row, members_are}
 
 not_own : (b : Bool) → b ≡ not b → ⊥
 not_own true q = true≢false q
@@ -109,27 +111,25 @@ pub calm_none : {graph : List ℕ} {count : ℕ} {D : Truths} → CalmFrom graph
 calm_none = record { most = omega arith; calm = λ m k a b. absurd (omega arith) }
 
 module _ {graph : List ℕ} {count e : ℕ} {D : Truths} (before : CalmFrom graph count e D) where
-  pub calm_all : e ≤ 0 → LastDirty graph count D 512
-  calm_all h = record { some = λ l. absurd (omega arith); none = λ _ m k a b. before.calm m k (omega arith) b }
+  pub calm_all : e ≤ 0 → LastDirty graph count D None
+  calm_all h m k a b = before.calm m k (omega arith) b
 
   -- one equation before it
-  module _ (some_left : 0 < e) {r : ℕ} (last : r ≡ last_below 512 (unlike_in (row_of graph (members_row (e - 1))) D false)) where
-    pub calm_but : r < 512 → LastDirty graph count D r
-    calm_but few = record {
-      some = λ _. (
-        e - 1,
-        omega (arith, before.most),
-        last_in_row graph (members_row (e - 1)) D false last few,
-        (λ m k a b. before.calm m k (omega arith) b),
-      );
-      none = λ h. absurd (omega arith);
-    }
+  module _ (some_left : 0 < e) where
+    pub calm_but : {j : ℕ} → LastOf (unlike_in (row_of graph (members_row (e - 1))) D false) (Some j)
+        → LastDirty graph count D (Some j)
+    calm_but last = (
+      e - 1,
+      omega (arith, before.most),
+      last_member (row_of graph (members_row (e - 1))) D false last,
+      (λ m k a b. before.calm m k (omega arith) b),
+    )
 
-    pub calm_more : 512 ≤ r → CalmFrom graph count (e - 1) D
-    calm_more h = record {
+    pub calm_more : LastOf (unlike_in (row_of graph (members_row (e - 1))) D false) None → CalmFrom graph count (e - 1) D
+    calm_more none = record {
       most = omega (arith, before.most);
       calm = λ m k a b o. elim (ℕ_discrete m (e - 1)) [
-        | yes q ↦ none_in_row graph (members_row (e - 1)) D false last h k (rw q at o)
+        | yes q ↦ none_in_row graph (members_row (e - 1)) D false none k (rw q at o)
         | no n ↦ before.calm m k (omega arith) b o
       ];
     }
@@ -148,13 +148,13 @@ looking_none = record { spent = omega arith; keeps = λ g count l mid. mid }
 
 module _ {bodies : List ℕ} {equations : List Equation} {table graph : List ℕ} where
   pub looking_more : {e j : ℕ} {p s u : Progress} → Looking bodies equations table graph e p s
-      → j ≡ last_below 512 (unlike_in (row_of graph (members_row e)) (bit_of s.dirty) false) → j < length table
+      → LastOf (unlike_in (row_of graph (members_row e)) (bit_of s.dirty) false) (Some j)
       → Looks bodies equations table graph j s u → Looking bodies equations table graph e p u
-  looking_more {e} {j} {p} {s} {u} before q l look = record {
+  looking_more {e} {j} {p} {s} {u} before last look = record {
     spent = omega (arith, before.spent, look.spent);
     keeps = λ g count few mid.
         let now = before.keeps g count few mid in
-        let row = last_in_row graph (members_row e) (bit_of s.dirty) false q (omega (arith, g.few)) in
+        let row = last_member (row_of graph (members_row e)) (bit_of s.dirty) false last in
         let own = sym (members_are g e j (omega (arith, now.midway.within))) ∙ row in
         let same = (of_named bodies equations table e j own).1 in
         rw (sym same) at (look.keeps g count (rw same at now));
@@ -269,33 +269,29 @@ pub carried_none : {bodies : List ℕ} {equations : List Equation} {count : ℕ}
 carried_none {bodies} {table = table} b = record { unchanged = b.unchanged; kept = λ g. begun (b.begun bodies table g) }
 
 module _ {bodies : List ℕ} {equations : List Equation} {count : ℕ} {table graph : List ℕ} {s : Progress}
-    (few : count ≤ 8) (before : Carried bodies equations count table graph s)
-    {j : ℕ} (last : LastDirty graph count (bit_of s.dirty) j) where
-  -- the equation of the last dirty instance
-  own_equation : GraphOf bodies equations table graph → j < 512 → (j < length table) × (equation_of table j < count)
-      × Quiet (numbered_system bodies equations table) count (suc (equation_of table j)) (bit_of s.dirty)
-  own_equation g l =
-      let found = last.some l in
-      let own = sym (members_are g found.0 j (omega (arith, found.1))) ∙ found.2 in
-      let named = of_named bodies equations table found.0 j own in
-      (ltb-true j (length table) named.0, rw named.1 at found.1, rw named.1 at (calm_quiet g few found.3))
+    (few : count ≤ 8) (before : Carried bodies equations count table graph s) where
+  module _ {j : ℕ} (last : LastDirty graph count (bit_of s.dirty) (Some j)) where
+    -- the equation of the last dirty instance
+    own_equation : GraphOf bodies equations table graph → (j < length table) × (equation_of table j < count)
+        × Quiet (numbered_system bodies equations table) count (suc (equation_of table j)) (bit_of s.dirty)
+    own_equation g =
+        let own = sym (members_are g last.0 j (omega (arith, last.1))) ∙ last.2 in
+        let named = of_named bodies equations table last.0 j own in
+        (ltb-true j (length table) named.0, rw named.1 at last.1, rw named.1 at (calm_quiet g few last.3))
 
-  pub carried_more : j < length table → {u v : Progress} → Rounds bodies equations table graph j s u
-      → Settles equations count graph (equation_of table j) u v → Carried bodies equations count table graph v
-  carried_more l round settle = record {
-    unchanged = settle.unchanged;
-    kept = λ g.
-        let own = own_equation g (omega (arith, g.few)) in
-        let kept = before.kept g in
-        settle.keeps bodies table g (round.keeps g count few (record {
-          midway = midway (system_proper bodies equations table) kept (equation_of table j) own.1 own.2;
-          unchanged = λ _. kept;
-        }));
-  }
+    pub carried_more : {u v : Progress} → Rounds bodies equations table graph j s u
+        → Settles equations count graph (equation_of table j) u v → Carried bodies equations count table graph v
+    carried_more round settle = record {
+      unchanged = settle.unchanged;
+      kept = λ g.
+          let own = own_equation g in
+          let kept = before.kept g in
+          settle.keeps bodies table g (round.keeps g count few (record {
+            midway = midway (system_proper bodies equations table) kept (equation_of table j) own.1 own.2;
+            unchanged = λ _. kept;
+          }));
+    }
 
-  pub carried_ends : length table ≤ j → GraphOf bodies equations table graph
+  pub carried_ends : LastDirty graph count (bit_of s.dirty) None → GraphOf bodies equations table graph
       → bit_of s.truth ≡ solved (numbered_system bodies equations table) count 0 nowhere
-  carried_ends l g = elim (dec_lt j 512) [
-    | yes a ↦ absurd (omega (arith, (own_equation g a).0))
-    | no n ↦ finished (system_proper bodies equations table) (before.kept g) (calm_quiet g few (last.none (omega arith)))
-  ]
+  carried_ends none g = finished (system_proper bodies equations table) (before.kept g) (calm_quiet g few none)

@@ -1,6 +1,6 @@
 -- LAWS of the steps of a round: a plain right side, one instance that changes, what stays clean then, and a look at an instance.
 -- Only the readers of a changed instance can lose their right side, and one that is at the changed value already has it still.
-use Prim.Native.Nat.{ℕ, ◌≤◌, ◌<◌}
+use Prim.Native.Nat.{ℕ, ◌<◌}
 use native.Mathlib.Omega.{arith}
 use mathlib.Core.Path.{◌≡◌, refl, sym, ap, ◌∙◌}
 use mathlib.Core.Bool.{Bool, true, false, not, ◌||◌, true≢false, and-eq-true_iff}
@@ -12,10 +12,11 @@ use lib.ListN.{length}
 use borrow.Author.Tests.{lt-ltb, ltb-true, eq-eqb, ne_eqb, not-false}
 use Rattle.meaning.specs.Logic.{cases}
 use Rattle.formulas.specs.declared.Equation.{Equation}
+use Rattle.std.specs.Prelude.{Some, None}
 use Rattle.truth.specs.Bits.{bit_of, updated, put_in}
-use Rattle.truth.specs.Rows.{row_of, unlike_in, joined, last_below}
+use Rattle.truth.specs.Rows.{row_of, unlike_in, joined, LastOf}
 use Rattle.truth.proofs.Bits.{beq_eq, updated_is}
-use Rattle.truth.proofs.RowLaws.{last_none, last_some, last_within, rank, last_falls}
+use Rattle.truth.proofs.RowLaws.{last_member, last_falls, none_unlike, unlike_left}
 use Rattle.systems.specs.Numbered.{Truths, Numbered}
 use Rattle.systems.specs.Rounds.{Untouched, Marked, Spread}
 use Rattle.systems.proofs.RoundLaws.{spread_none, spread_then, midway_stays, midway_moves, midway_unchanged}
@@ -58,23 +59,12 @@ joined_out D rest set X w e k o =
     let p = neither (rest k) _ (sym (ap (λ (x : Truths). x k) e) ∙ o) in
     (p.0, λ t. beq_eq (X k) w (not-false _ (rw t at p.1)))
 
--- ---- the last number r of row i at which f is not b
-module _ (graph : List ℕ) (i : ℕ) (f : Truths) (b : Bool) {r : ℕ}
-    (last : r ≡ last_below 512 (unlike_in (row_of graph i) f b)) where
-  abbrev wrong : Truths
-  wrong = unlike_in (row_of graph i) f b
-
-  pub last_in_row : r < 512 → row_of graph i r ≡ true
-  unfolding unlike_in
-  last_in_row few = ((and-eq-true_iff (row_of graph i r) _).0 (last_some wrong 512 r last few).1).0
-
-  -- 512 stands for none
-  pub none_in_row : 512 ≤ r → (k : ℕ) → row_of graph i k ≡ true → f k ≡ b
-  unfolding unlike_in row_of
-  none_in_row h k t =
-      let none : last_below 512 wrong ≡ 512 = omega (arith, last, last_within wrong 512 (omega arith)) in
-      let few = ltb-true k 512 ((and-eq-true_iff (ltb k 512) _).0 t).0 in
-      beq_eq (f k) b (not-false _ (rw t at (last_none wrong 512 none (omega arith) k few)))
+-- a row has numbers below 512 alone
+pub none_in_row : (graph : List ℕ) (i : ℕ) (f : Truths) (b : Bool) → LastOf (unlike_in (row_of graph i) f b) None
+    → (k : ℕ) → row_of graph i k ≡ true → f k ≡ b
+unfolding row_of
+none_in_row graph i f b none k t =
+    none_unlike (row_of graph i) f b none k (ltb-true k 512 ((and-eq-true_iff (ltb k 512) _).0 t).0) t
 
 -- ---- in a table whose graph is lent
 module _ {bodies : List ℕ} {equations : List Equation} {table graph : List ℕ} (g : GraphOf bodies equations table graph) where
@@ -173,43 +163,40 @@ Spreads graph w p s =
     (bodies : List ℕ) (equations : List Equation) (table : List ℕ) → GraphOf bodies equations table graph
     → Spread (reads_in bodies equations table) w (bit_of p.truth) (bit_of s.truth) (bit_of p.dirty) (bit_of s.dirty)
 
--- the instances of equation m go back to w, one by one: s has come from p, and j is the last that is not at w yet
-pub record Going (graph : List ℕ) (m : ℕ) (w : Bool) (p s : Progress) (j : ℕ) : Type 0 where
-  pub last : j ≡ last_below 512 (unlike_in (row_of graph (members_row m)) (bit_of s.truth) w)
+-- the instances of equation m go back to w, one by one: s has come from p
+pub record Going (graph : List ℕ) (m : ℕ) (w : Bool) (p s : Progress) : Type 0 where
   pub stays : (k : ℕ) → row_of graph (members_row m) k ≡ false → bit_of s.truth k ≡ bit_of p.truth k
   pub spread : Spreads graph w p s
   pub left : s.left ≡ p.left
   pub changed : s.changed ≡ p.changed
 
-pub going_none : (graph : List ℕ) (m : ℕ) (w : Bool) (p : Progress) (j : ℕ)
-    → j ≡ last_below 512 (unlike_in (row_of graph (members_row m)) (bit_of p.truth) w) → Going graph m w p p j
-going_none graph m w p j e = record {
-  last = e;
+pub going_none : {graph : List ℕ} {m : ℕ} {w : Bool} {p : Progress} → Going graph m w p p
+going_none {w = w} {p = p} = record {
   stays = λ k o. refl;
   spread = λ bodies equations table g. spread_none (reads_in bodies equations table) w (bit_of p.truth) (bit_of p.dirty);
   left = refl;
   changed = refl;
 }
 
-module _ {graph : List ℕ} {m : ℕ} {w : Bool} {p s : Progress} {j : ℕ} (going : Going graph m w p s j) where
+module _ {graph : List ℕ} {m : ℕ} {w : Bool} {p s : Progress} (going : Going graph m w p s) where
   abbrev members : Truths
   members = row_of graph (members_row m)
 
   -- no instance is left
-  pub going_done : 512 ≤ j → SetsBack graph m w p s
-  going_done h = record {
-    back = none_in_row graph (members_row m) (bit_of s.truth) w going.last h;
+  pub going_done : LastOf (unlike_in members (bit_of s.truth) w) None → SetsBack graph m w p s
+  going_done none = record {
+    back = none_in_row graph (members_row m) (bit_of s.truth) w none;
     stays = going.stays;
     spread = going.spread;
     left = going.left;
     changed = going.changed;
   }
 
-  -- instance j goes back, and i is the next
-  module _ {u : Progress} (few : j < 512) (back : PutsBack graph j w s u) (i : ℕ)
-      (next : i ≡ last_below 512 (unlike_in members (bit_of u.truth) w)) where
+  -- instance j, the last that is not at w, goes back
+  module _ {u : Progress} {j : ℕ} (last : LastOf (unlike_in members (bit_of s.truth) w) (Some j))
+      (back : PutsBack graph j w s u) where
     member : members j ≡ true
-    member = last_in_row graph (members_row m) (bit_of s.truth) w going.last few
+    member = last_member members (bit_of s.truth) w last
 
     one : m < 8 → Spreads graph w s u
     one l bodies equations table g k o =
@@ -220,16 +207,15 @@ module _ {graph : List ℕ} {m : ℕ} {w : Bool} {p s : Progress} {j : ℕ} (goi
           untouched g (record { here = back.here; there = back.there }) (ltb-true j (length table) named.0) k q.1,
         )
 
-    pub going_more : m < 8 → Going graph m w p u i
+    pub going_more : m < 8 → Going graph m w p u
     going_more l = record {
-      last = next;
       stays = λ k o. back.there k (λ e. absurd (true≢false (sym member ∙ rw e at o))) ∙ going.stays k o;
       spread = λ bodies equations table g. spread_then (going.spread bodies equations table g) (one l bodies equations table g);
       left = back.left ∙ going.left;
       changed = back.changed ∙ going.changed;
     }
 
-    pub going_less : rank i < rank j
+    pub going_less : unlike_left members (bit_of u.truth) w < unlike_left members (bit_of s.truth) w
     going_less =
         let put = updated_is (bit_of u.truth) (bit_of s.truth) j w back.here back.there in
-        rw (← put, ← next) at (last_falls members (bit_of s.truth) w going.last few)
+        rw put (last_falls members (bit_of s.truth) w last)

@@ -1,6 +1,7 @@
 -- What the private functions of the solver by rounds promise.
 -- All of it is said of a table whose graph is lent: what is kept before a step is kept after it.
 use Rattle.std.specs.Prelude.{ℕ, suc, ◌≤◌, ◌<◌, ◌≡◌, Bool, true, false, not, cond, List, eqb, get_or}
+use Rattle.std.specs.Prelude.{Option, Some, None, IfSome}
 use Rattle.formulas.specs.declared.Equation.{Equation}
 use Rattle.truth.specs.Bits.{bit_of, nowhere}
 use Rattle.truth.specs.Rows.{row_of, unlike_in, last_below}
@@ -11,7 +12,6 @@ use Rattle.systems.specs.Rounds.{Kept, Midway, Spread, Begun}
 use Rattle.instances.specs.Sides.{numbered_system}
 use Rattle.instances.specs.Graph.{reads_in, readers_row, members_row, GraphOf}
 use Rattle.solving.specs.declared.steps.Progress.{Progress}
-use Rattle.solving.specs.declared.rounds.Outcome.{Outcome}
 
 -- the equation of instance j
 abbrev pub equation_of : List ℕ → ℕ → ℕ
@@ -78,11 +78,11 @@ pub record Begins (equations : List Equation) (count : ℕ) (graph : List ℕ) (
       → Begun (numbered_system bodies equations table) count nowhere (bit_of r.truth) (bit_of r.dirty)
   pub unchanged : r.changed ≡ false
 
--- a dirty instance of an equation after which none has one; 512 where nothing is dirty
-pub record LastDirty (graph : List ℕ) (count : ℕ) (D : Truths) (r : ℕ) : Type 0 where
-  pub some : r < 512
-      → (e : ℕ) × (e < count) × (row_of graph (members_row e) r ≡ true) × Calm graph count (suc e) D
-  pub none : 512 ≤ r → Calm graph count 0 D
+-- a dirty instance of an equation after which none has one; None where nothing is dirty
+abbrev pub LastDirty : (graph : List ℕ) (count : ℕ) → Truths → Option ℕ → Type 0
+LastDirty graph count D None = Calm graph count 0 D
+LastDirty graph count D (Some j) =
+    (e : ℕ) × (e < count) × (row_of graph (members_row e) j ≡ true) × Calm graph count (suc e) D
 
 pub record Rounds (bodies : List ℕ) (equations : List Equation) (table graph : List ℕ) (first : ℕ)
     (p r : Progress) : Type 0 where
@@ -99,7 +99,7 @@ pub record Settles (equations : List Equation) (count : ℕ) (graph : List ℕ) 
       → Midst bodies equations count table e p → KeptBy bodies equations count table r
 
 -- where nothing is left dirty, the set is the solution
-abbrev pub Solved : List ℕ → List Equation → (count : ℕ) (table graph : List ℕ) → Outcome → Type 0
+abbrev pub Solved : List ℕ → List Equation → (count : ℕ) (table graph : List ℕ) → Option (List ℕ) → Type 0
 Solved bodies equations count table graph r =
-    r.done ≡ true → GraphOf bodies equations table graph
-    → bit_of r.truth ≡ solved (numbered_system bodies equations table) count 0 nowhere
+    GraphOf bodies equations table graph
+    → IfSome r (λ t. bit_of t ≡ solved (numbered_system bodies equations table) count 0 nowhere)

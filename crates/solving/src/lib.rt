@@ -21,10 +21,8 @@ pub fn solution_of(
     ensures { Solves bodies.now equations count table.now
         graph.now result }
 {
-    let few = basics::smaller(count, 8);
-    let r = all_rounds(bodies, equations, few, table, graph);
-    if r.done {
-        return r.truth;
+    if let Some(truth) = all_rounds(bodies, equations, count.min(8), table, graph) {
+        return truth;
     }
     nested::nested_solution(bodies, equations, count, table)
 }

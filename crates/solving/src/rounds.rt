@@ -8,15 +8,8 @@ ghost use Rattle.std.specs.Prelude.{◌≡◌, ◌≤◌, ◌<◌, length};
 ghost use Rattle.truth.specs.Bits.{bit_of};
 ghost use Rattle.solving.specs.Rounds.{LastDirty, Begins, Rounds, Settles, Solved};
 
-use crate::steps::{Progress, is_greatest, look, set_back};
+use crate::steps::{Progress, is_greatest, look};
 use formulas::Equation;
-
-// The set of the last round; done: nothing was left dirty.
-#[derive(Clone, Copy)]
-pub(crate) struct Outcome {
-    pub done: bool,
-    pub truth: [u64; 8],
-}
 
 // Every instance of the first `count` equations at the constant of its equation's sign, and all are dirty.
 fn first_values(equations: [Equation; 8], count: usize, graph: &[u64]) -> Progress
@@ -26,15 +19,14 @@ fn first_values(equations: [Equation; 8], count: usize, graph: &[u64]) -> Progre
     let none = truth::none();
     let mut truth = none;
     let mut dirty = none;
-    let mut e: usize = 0;
-    while e < count {
+    for e in 0..count {
+        // By a local: the check covers no result of a call that is laid in an array at once.
         let d = truth::with_unlike(dirty, graph, 1024 + e, none, true);
         dirty = d;
         if is_greatest(equations, e) {
             let t = truth::with_unlike(truth, graph, 1024 + e, none, true);
             truth = t;
         }
-        e += 1;
     }
     Progress {
         truth,
@@ -44,20 +36,17 @@ fn first_values(equations: [Equation; 8], count: usize, graph: &[u64]) -> Progre
     }
 }
 
-// The last dirty instance of the last of the first `count` equations that has one; 512 where there is none.
-fn last_dirty(graph: &[u64], count: usize, dirty: [u64; 8]) -> usize
+// The last dirty instance of the last of the first `count` equations that has one.
+fn last_dirty(graph: &[u64], count: usize, dirty: [u64; 8]) -> Option<usize>
     requires { count ≤ 8 }
     ensures { LastDirty graph.now count (bit_of dirty) result }
 {
-    let mut e = count;
-    while 0 < e {
-        e -= 1;
-        let j = truth::last_unlike(graph, 1024 + e, dirty, false);
-        if j < 512 {
-            return j;
+    for e in (0..count).rev() {
+        if let Some(j) = truth::last_unlike(graph, 1024 + e, dirty, false) {
+            return Some(j);
         }
     }
-    512
+    None
 }
 
 // Looks at a dirty instance, and then at those of its equation until it has none, or no look is left.
@@ -75,14 +64,11 @@ fn round(
 {
     let e = words::equation_number(table[first]);
     let mut s = look(bodies, equations, table, graph, p, first);
-    while 0 < s.left {
-        let d = s.dirty;
-        let j = truth::last_unlike(graph, 1024 + e, d, false);
-        if table.len() <= j {
+    while let Some(j) = truth::last_unlike(graph, 1024 + e, s.dirty, false) {
+        if s.left == 0 || table.len() <= j {
             return s;
         }
-        let u = look(bodies, equations, table, graph, s, j);
-        s = u;
+        s = look(bodies, equations, table, graph, s, j);
     }
     s
 }
@@ -93,53 +79,47 @@ fn settle(equations: [Equation; 8], count: usize, graph: &[u64], e: usize, p: Pr
     requires { (count ≤ 8) × (e < 65536) }
     ensures { Settles equations count graph.now e p result }
 {
-    let truth = p.truth;
-    let dirty = p.dirty;
     let mut s = Progress {
-        truth,
-        dirty,
-        left: p.left,
         changed: false,
+        ..p
     };
     if !p.changed {
         return s;
     }
     let sign = is_greatest(equations, e);
-    let mut m = e + 1;
-    while m < count {
+    for m in e + 1..count {
         if is_greatest(equations, m) != sign {
-            let u = set_back(graph, m, !sign, s);
-            s = u;
+            s = s.set_back(graph, m, !sign);
         }
-        m += 1;
     }
     s
 }
 
-// All equations solved by rounds, as far as the looks go.
+// All equations solved by rounds; None where the looks do not last, or a dirty number is past the table.
 pub(crate) fn all_rounds(
     bodies: &[u8],
     equations: [Equation; 8],
     count: usize,
     table: &[u32],
     graph: &[u64],
-) -> Outcome
+) -> Option<[u64; 8]>
     requires { count ≤ 8 }
     ensures { Solved bodies.now equations count table.now
         graph.now result }
 {
     let mut s = first_values(equations, count, graph);
-    while 0 < s.left {
-        let dirty = s.dirty;
-        let j = last_dirty(graph, count, dirty);
-        if table.len() <= j {
-            let truth = s.truth;
-            return Outcome { done: true, truth };
+    while let Some(j) = last_dirty(graph, count, s.dirty) {
+        if s.left == 0 || table.len() <= j {
+            return None;
         }
-        let u = round(bodies, equations, table, graph, s, j);
-        let v = settle(equations, count, graph, words::equation_number(table[j]), u);
-        s = v;
+        let looked = round(bodies, equations, table, graph, s, j);
+        s = settle(
+            equations,
+            count,
+            graph,
+            words::equation_number(table[j]),
+            looked,
+        );
     }
-    let truth = s.truth;
-    Outcome { done: false, truth }
+    Some(s.truth)
 }

@@ -30,10 +30,10 @@ pub(crate) fn is_greatest(equations: [Equation; 8], e: usize) -> bool
 fn plain_value(graph: &[u64], j: usize, t: [u64; 8], all: bool) -> bool
     ensures { result ≡ plain_of graph.now j (bit_of t) all }
 {
-    if truth::last_unlike(graph, j, t, all) == 512 {
-        return all;
+    match truth::last_unlike(graph, j, t, all) {
+        None => all,
+        Some(_) => !all,
     }
-    !all
 }
 
 // The right side of instance j in the set t: a plain one by what it reads, another one from its body.
@@ -55,12 +55,12 @@ fn side_value(
     if truth::row_has(graph, 1033, j) {
         return plain_value(graph, j, t, false);
     }
-    let value = instances::right_side(bodies, equations, table[j], table, &t);
-    instances::is_true(value)
+    instances::is_true(instances::right_side(bodies, equations, table[j], table, &t))
 }
 
 // Instance j is looked at: it goes to its right side, away from its constant, and its readers that are not
 // there already are dirty then. It never goes back to its constant; if it did, it would stay dirty.
+// What it looks at is passed part by part: as one struct, by value, solving took a fifth more instructions.
 pub(crate) fn look(
     bodies: &[u8],
     equations: [Equation; 8],
@@ -72,29 +72,20 @@ pub(crate) fn look(
     requires { (j < length table.now) × (0 < p.left) }
     ensures { Looks bodies.now equations table.now graph.now j p result }
 {
-    let t = p.truth;
-    let d = p.dirty;
-    let changed = p.changed;
+    let w = side_value(bodies, equations, table, graph, p.truth, j);
+    let rest = truth::put(p.dirty, j, false);
     let left = p.left - 1;
-    let w = side_value(bodies, equations, table, graph, t, j);
-    let rest = truth::put(d, j, false);
-    if w == truth::has(t, j) {
+    if w == truth::has(p.truth, j) {
         return Progress {
-            truth: t,
             dirty: rest,
             left,
-            changed,
+            ..p
         };
     }
     if w == is_greatest(equations, words::equation_number(table[j])) {
-        return Progress {
-            truth: t,
-            dirty: d,
-            left,
-            changed,
-        };
+        return Progress { left, ..p };
     }
-    let truth = truth::put(t, j, w);
+    let truth = truth::put(p.truth, j, w);
     let dirty = truth::with_unlike(rest, graph, 512 + j, truth, w);
     Progress {
         truth,
@@ -104,37 +95,31 @@ pub(crate) fn look(
     }
 }
 
-// Instance j goes back to w; it and its readers that are not there are dirty then.
-fn put_back(graph: &[u64], j: usize, w: bool, p: Progress) -> Progress
-    requires { j < 512 }
-    ensures { PutsBack graph.now j w p result }
-{
-    let t = p.truth;
-    let d = p.dirty;
-    let truth = truth::put(t, j, w);
-    let more = truth::put(d, j, true);
-    let dirty = truth::with_unlike(more, graph, 512 + j, truth, w);
-    Progress {
-        truth,
-        dirty,
-        left: p.left,
-        changed: p.changed,
+impl Progress {
+    // Instance j goes back to w; it and its readers that are not there are dirty then.
+    fn put_back(self, graph: &[u64], j: usize, w: bool) -> Progress
+        requires { j < 512 }
+        ensures { PutsBack graph.now j w self result }
+    {
+        let truth = truth::put(self.truth, j, w);
+        let more = truth::put(self.dirty, j, true);
+        let dirty = truth::with_unlike(more, graph, 512 + j, truth, w);
+        Progress {
+            truth,
+            dirty,
+            ..self
+        }
     }
-}
 
-// The instances of equation m that are not at w go back to it.
-pub(crate) fn set_back(graph: &[u64], m: usize, w: bool, p: Progress) -> Progress
-    requires { m < 8 }
-    ensures { SetsBack graph.now m w p result }
-{
-    let mut s = p;
-    let first = p.truth;
-    let mut j = truth::last_unlike(graph, 1024 + m, first, w);
-    while j < 512 {
-        let u = put_back(graph, j, w, s);
-        s = u;
-        let t = s.truth;
-        j = truth::last_unlike(graph, 1024 + m, t, w);
+    // The instances of equation m that are not at w go back to it.
+    pub(crate) fn set_back(self, graph: &[u64], m: usize, w: bool) -> Progress
+        requires { m < 8 }
+        ensures { SetsBack graph.now m w self result }
+    {
+        let mut s = self;
+        while let Some(j) = truth::last_unlike(graph, 1024 + m, s.truth, w) {
+            s = s.put_back(graph, j, w);
+        }
+        s
     }
-    s
 }

@@ -14,6 +14,7 @@ use Rattle.meaning.specs.Formulas.{Formula, constant, joined, quantified, compar
 use Rattle.meaning.specs.Ranges.{sound_term, sound_terms, sound, all_ranges}
 use Rattle.meaning.specs.Models.{ModelEquation}
 use Rattle.meaning.specs.Reach.{Instance}
+use Rattle.std.specs.Prelude.{Some}
 use Rattle.formulas.specs.declared.Kind.TheVariants.{Constant, Join, Quantifier, Compare}
 use Rattle.formulas.specs.declared.TermKind.TheVariants.{Calculation}
 use Rattle.formulas.specs.declared.Test.{Test}
@@ -67,7 +68,7 @@ test_tested meaning.less = refl
 test_tested meaning.unequal = refl
 test_tested meaning.not_less = refl
 
-compare_kind : (t : meaning.Test) → kind_of (test_code t) ≡ Compare (tested t)
+compare_kind : (t : meaning.Test) → kind_of (test_code t) ≡ Some (Compare (tested t))
 unfolding row_of test_code tested
 compare_kind meaning.equal = refl
 compare_kind meaning.less = refl
@@ -93,7 +94,7 @@ term_read (calculated plus r a b) k (suc n) p e s f h l o =
     let count = length-append (spelled_term a) (spelled_term b) in
     let m = p + 2 + length (spelled_term a) in
     let code = first s p _ _ h in
-    let kinds = either_way (λ b c. term_kind_of c ≡ Calculation b) plus in
+    let kinds = either_way (λ b c. term_kind_of c ≡ Some (Calculation b)) plus in
     let one = after_one s p _ _ h in
     let two = moved s (p + 1 + 1) (p + 2) _ (omega arith) (after_one s (p + 1) _ _ one) in
     let a_there = left_part s (p + 2) (spelled_term a) (spelled_term b) two in
@@ -128,14 +129,14 @@ unfolding sound spelled row_of
 formula_read (constant b) k q zero p e s x h l o = absurd (omega arith)
 formula_read (constant b) k q (suc n) p e s x h l o =
     let code = first s p _ _ h in
-    let kinds = either_way (λ b c. kind_of c ≡ Constant b) b in
+    let kinds = either_way (λ b c. kind_of c ≡ Some (Constant b)) b in
     rw (shape_constant n s k q p b (ap kind_of code ∙ kinds _ _ refl refl), o) refl
 formula_read (joined all f g) k q zero p e s x h l o = absurd (omega arith)
 formula_read (joined all f g) k q (suc n) p e s x h l o =
     let count = length-append (spelled f) (spelled g) in
     let m = p + 1 + length (spelled f) in
     let code = first s p _ _ h in
-    let kinds = either_way (λ b c. kind_of c ≡ Join b) all in
+    let kinds = either_way (λ b c. kind_of c ≡ Some (Join b)) all in
     let one = after_one s p _ _ h in
     let f_there = left_part s (p + 1) (spelled f) (spelled g) one in
     let g_there = right_part s (p + 1) (spelled f) (spelled g) one in
@@ -145,7 +146,7 @@ formula_read (joined all f g) k q (suc n) p e s x h l o =
 formula_read (quantified all r f) k q zero p e s x h l o = absurd (omega arith)
 formula_read (quantified all r f) k q (suc n) p e s x h l o =
     let code = first s p _ _ h in
-    let kinds = either_way (λ b c. kind_of c ≡ Quantifier b) all in
+    let kinds = either_way (λ b c. kind_of c ≡ Some (Quantifier b)) all in
     let one = after_one s p _ _ h in
     let two = moved s (p + 1 + 1) (p + 2) _ (omega arith) (after_one s (p + 1) _ _ one) in
     let inner : Is (sound (k + 1) (q + 1) f) = rw (add-one k, add-one q) (and_r _ _ x) in

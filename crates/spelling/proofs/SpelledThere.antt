@@ -10,11 +10,12 @@ use Rattle.std.proofs.Math.Facts.{and_yes}
 use Rattle.meaning.specs.Logic.{cases}
 use Rattle.meaning.specs.Formulas.{Term, Formula}
 use Rattle.meaning.specs.Ranges.{is_range}
+use Rattle.std.specs.Prelude.{Option, None, Some}
 use Rattle.formulas.specs.declared.Kind.{Kind}
-use Rattle.formulas.specs.declared.Kind.TheVariants.{NoFormula, Constant, Join, Quantifier, Compare}
+use Rattle.formulas.specs.declared.Kind.TheVariants.{Constant, Join, Quantifier, Compare}
 use Rattle.formulas.specs.declared.Kind.TheVariants.{Instance}
 use Rattle.formulas.specs.declared.TermKind.{TermKind}
-use Rattle.formulas.specs.declared.TermKind.TheVariants.{NoTerm, Number, Variable, Calculation}
+use Rattle.formulas.specs.declared.TermKind.TheVariants.{Number, Variable, Calculation}
 use Rattle.formulas.specs.Codes.{Row, rows, no_row, row_of, kind_of, term_kind_of}
 use Rattle.formulas.specs.Decode.{Parsed, some, in_row, nth_term, test_of, term_at, terms_at, formula_at}
 use Rattle.formulas.specs.Bodies.{formula_of, is_body}
@@ -27,19 +28,19 @@ use Rattle.spelling.specs.Stands.{Stands, moved, stands_nothing, before_one, bot
 use Rattle.spelling.specs.SpelledThere.{There}
 
 -- ---- the code of a kind
-abbrev is_code_of : Kind → ℕ → Bool
-is_code_of NoFormula c = true
-is_code_of (Constant b) c = eqb c (either_code b 0x11 0x10)
-is_code_of (Join all) c = eqb c (either_code all 0x12 0x13)
-is_code_of (Quantifier all) c = eqb c (either_code all 0x14 0x15)
-is_code_of (Compare t) c = eqb c (test_code (test_of t))
-is_code_of Instance c = eqb c 0x1a
+abbrev is_code_of : Option Kind → ℕ → Bool
+is_code_of None c = true
+is_code_of (Some (Constant b)) c = eqb c (either_code b 0x11 0x10)
+is_code_of (Some (Join all)) c = eqb c (either_code all 0x12 0x13)
+is_code_of (Some (Quantifier all)) c = eqb c (either_code all 0x14 0x15)
+is_code_of (Some (Compare t)) c = eqb c (test_code (test_of t))
+is_code_of (Some Instance) c = eqb c 0x1a
 
-abbrev is_term_code_of : TermKind → ℕ → Bool
-is_term_code_of NoTerm c = true
-is_term_code_of Number c = eqb c 0x20
-is_term_code_of Variable c = eqb c 0x21
-is_term_code_of (Calculation plus) c = eqb c (either_code plus 0x22 0x23)
+abbrev is_term_code_of : Option TermKind → ℕ → Bool
+is_term_code_of None c = true
+is_term_code_of (Some Number) c = eqb c 0x20
+is_term_code_of (Some Variable) c = eqb c 0x21
+is_term_code_of (Some (Calculation plus)) c = eqb c (either_code plus 0x22 0x23)
 
 abbrev coded : ℕ → Row → Bool
 coded c r = is_code_of r.formula c && is_term_code_of r.term c
@@ -69,13 +70,13 @@ row_coded c = cases (leb 0x10 c)
 
 -- `refl` is the last argument where the kind is known
 module _ (c code : ℕ) where
-  code_is : {kind : Kind} → kind_of c ≡ kind → is_code_of kind c ≡ eqb c code → c ≡ code
+  code_is : {kind : Option Kind} → kind_of c ≡ kind → is_code_of kind c ≡ eqb c code → c ≡ code
   code_is {kind} h e =
       let f = is_code_of (kind_of c) c in
       let t = is_term_code_of (term_kind_of c) c in
       eqb→eq c code (rw (h, e) at (and_yes f t (row_coded c)).0)
 
-  term_code_is : {kind : TermKind} → term_kind_of c ≡ kind → is_term_code_of kind c ≡ eqb c code → c ≡ code
+  term_code_is : {kind : Option TermKind} → term_kind_of c ≡ kind → is_term_code_of kind c ≡ eqb c code → c ≡ code
   term_code_is {kind} h e =
       let f = is_code_of (kind_of c) c in
       let t = is_term_code_of (term_kind_of c) c in
@@ -124,19 +125,19 @@ module _ (s : List ℕ) (k : ℕ) where
   two_there at e (a ∷ b ∷ []) r = rw (append-nil (spelled_term b)) at r.1
   two_there at e (a ∷ b ∷ c ∷ ts) r = absurd (omega (arith, r.0))
 
-  every_kind : (n : ℕ) → ((at : ℕ) → Every (TermThere at) (term_at n s k at)) → (at : ℕ) (kind : TermKind) →
+  every_kind : (n : ℕ) → ((at : ℕ) → Every (TermThere at) (term_at n s k at)) → (at : ℕ) (kind : Option TermKind) →
       term_kind_of (get_or s at 0) ≡ kind → Every (TermThere at) (term_at (suc n) s k at)
   unfolding spelled_term
-  every_kind n f at NoTerm h = rw (shape_no_term n s k at h) unread
-  every_kind n f at Number h =
+  every_kind n f at None h = rw (shape_no_term n s k at h) unread
+  every_kind n f at (Some Number) h =
       let code = term_code_is (get_or s at 0) 0x20 h refl in
       rw (shape_number n s k at h) (every_when (leb (get_or s (at + 1) 0) 15) (λ _.
       each (there_byte code refl (there_byte refl (omega arith) (there_nothing (at + 2))))))
-  every_kind n f at Variable h =
+  every_kind n f at (Some Variable) h =
       let code = term_code_is (get_or s at 0) 0x21 h refl in
       rw (shape_variable n s k at h) (every_when (ltb (get_or s (at + 1) 0) k) (λ _.
       each (there_byte code refl (there_byte refl (omega arith) (there_nothing (at + 2))))))
-  every_kind n f at (Calculation plus) h =
+  every_kind n f at (Some (Calculation plus)) h =
       let code = term_code_is (get_or s at 0) (either_code plus 0x22 0x23) h refl in
       rw (shape_calculation n s k at plus h) (every_when (is_range (get_or s (at + 1) 0)) (λ _.
       every_last _ (row_there (term_at n s k) f 2 (at + 2)) (λ ts e r.
@@ -156,28 +157,28 @@ module _ (s : List ℕ) where
   FormulaThere at f e = There s at (spelled f) e
 
   every_formula_kind : (n : ℕ) → ((k q at : ℕ) → Every (FormulaThere at) (formula_at n s k q at)) →
-      (k q at : ℕ) (kind : Kind) → kind_of (get_or s at 0) ≡ kind →
+      (k q at : ℕ) (kind : Option Kind) → kind_of (get_or s at 0) ≡ kind →
       Every (FormulaThere at) (formula_at (suc n) s k q at)
   unfolding spelled
-  every_formula_kind n sub k q at NoFormula h = rw (shape_no_formula n s k q at h) unread
-  every_formula_kind n sub k q at (Constant b) h =
+  every_formula_kind n sub k q at None h = rw (shape_no_formula n s k q at h) unread
+  every_formula_kind n sub k q at (Some (Constant b)) h =
       let code = code_is (get_or s at 0) (either_code b 0x11 0x10) h refl in
       rw (shape_constant n s k q at b h) (each (there_byte code refl (there_nothing (at + 1))))
-  every_formula_kind n sub k q at (Join all) h =
+  every_formula_kind n sub k q at (Some (Join all)) h =
       let code = code_is (get_or s at 0) (either_code all 0x12 0x13) h refl in
       rw (shape_join n s k q at all h) (every_then _ (sub k q (at + 1)) (λ f m x.
       every_last _ (sub k q m) (λ g e y. there_byte code refl (there_both x y))))
-  every_formula_kind n sub k q at (Quantifier all) h =
+  every_formula_kind n sub k q at (Some (Quantifier all)) h =
       let code = code_is (get_or s at 0) (either_code all 0x14 0x15) h refl in
       rw (shape_quantifier n s k q at all h) (every_when (ltb q 4) (λ _.
       every_when (is_range (get_or s (at + 1) 0)) (λ _.
       every_last _ (sub (k + 1) (q + 1) (at + 2)) (λ f e x.
       there_byte code refl (there_byte refl (omega arith) x)))))
-  every_formula_kind n sub k q at (Compare t) h =
+  every_formula_kind n sub k q at (Some (Compare t)) h =
       let code = code_is (get_or s at 0) (test_code (test_of t)) h refl in
       rw (shape_compare n s k q at t h) (every_last _ (every_terms s k n 2 (at + 1)) (λ ts e r.
       there_byte code refl (two_there s k (at + 1) e ts r)))
-  every_formula_kind n sub k q at Instance h =
+  every_formula_kind n sub k q at (Some Instance) h =
       let code = code_is (get_or s at 0) 0x1a h refl in
       let count = get_or s (at + 1 + 1) 0 in
       rw (shape_instance n s k q at h) (every_when (leb count 4) (λ _.

@@ -2,15 +2,20 @@
 -- Each test that is made in the code is the test in the definition.
 use Prim.Native.Nat.{ℕ, ◌≤◌, ◌<◌}
 use native.Mathlib.Omega.{arith}
-use mathlib.Core.Path.{◌≡◌, refl}
+use mathlib.Core.Path.{◌≡◌, refl, sym, ap, ◌∙◌}
 use mathlib.Core.Bool.{true, false}
 use mathlib.Core.List.{List}
 use lib.ListN.{length}
 use borrow.Author.Tests.{eq-eqb, ne_eqb, le-leb, lt-leb}
-use Rattle.reading.specs.Reading.{refused}
+use Rattle.std.specs.Prelude.{Ok, Err}
+use Rattle.refusals.specs.declared.Refusal.{Refusal as WhyNot}
+use Rattle.refusals.specs.Numbers.{number_of}
+use Rattle.refusals.specs.OneReply.{some_number}
+use Rattle.reading.specs.Reading.{Refusal, refused}
 use Rattle.inputs.specs.Inputs.{input_refusal}
+use Rattle.processes.specs.Kept.{Input, input, told}
 use Rattle.emitter.specs.Limits.{within_limits}
-use Rattle.writing.specs.Writing.{refusal_reply, BytesPut}
+use Rattle.writing.specs.Writing.{refusal_reply, refusal_written, reply_to, BytesPut}
 use Rattle.writing.proofs.Laws.{refuses, writes_put}
 use Rattle.translator.specs.Answers.{model_for, translated_text, translation_refusal, Translates}
 
@@ -38,9 +43,14 @@ module _ (t : List ℕ) (room : ℕ) where
 
 -- ---- what is promised, by the refusal
 module _ (t out : List ℕ) where
-  pub stays_input : ((input_refusal t).number ≡ 0 → ⊥)
-      → Translates t out (refusal_reply (input_refusal t).number (input_refusal t).line) out
-  stays_input n = refuses (translated_text t) out (refused_input t (length out) n) n
+  pub stays_input : (x : WhyNot) → told (Err x) ≡ input t → Translates t out (refusal_written x) out
+  unfolding input
+  stays_input x is =
+      let same : refused (number_of x.reason) x.line ≡ input_refusal t =
+      ap (λ (i : Input). refused i.number i.line) is in
+      let some = some_number x.reason in
+      let n = refused_input t (length out) (λ z. some (ap (λ (r : Refusal). r.number) same ∙ z)) in
+      refuses (translated_text t) out (n ∙ sym same) some
 
   module _ (read : (input_refusal t).number ≡ 0) where
     pub stays_limits : within_limits (model_for t) ≡ false → Translates t out (refusal_reply 15 0) out
@@ -51,5 +61,5 @@ module _ (t out : List ℕ) where
       stays_room l = refuses (translated_text t) out (refused_room t (length out) read limits l) (λ e. omega arith)
 
       pub model_put : {n : ℕ} {left : List ℕ} → length (translated_text t) ≤ length out
-          → BytesPut out 0 (translated_text t) n left → Translates t out (record { number = 0; line = 0; length = n }) left
+          → BytesPut out 0 (translated_text t) n left → Translates t out (reply_to (Ok n)) left
       model_put l = writes_put (not_refused t (length out) read limits l) l

@@ -1,7 +1,7 @@
 -- ONE REPLY: for each public function two results that its contract allows are equal.
 -- A set is eight words of 64 bits, as its type says: sets with the same bits are the same words, and so are lists of one length.
 use Prim.Native.Nat.{ℕ, ◌+◌, ◌*◌, ◌<◌, ◌^◌}
-use mathlib.Core.Path.{◌≡◌, sym, ap, ◌∙◌}
+use mathlib.Core.Path.{◌≡◌, refl, sym, ap, ◌∙◌}
 use mathlib.Core.Bool.{Bool}
 use mathlib.Core.List.{List}
 use lib.ListN.{length, get_or}
@@ -9,7 +9,8 @@ use lib.Seq.{ext_get_or}
 use native.Mathlib.Omega.{arith}
 use Rattle.meaning.specs.OneReply.{one_reply}
 use Rattle.truth.specs.Bits.{bit_of, put_in, nowhere, same_below, Counts}
-use Rattle.truth.specs.Rows.{row_of, unlike_in, joined, last_below, with_bit, with_row, Becomes}
+use Rattle.truth.specs.Rows.{row_of, unlike_in, joined, number_of, LastOf, with_bit, with_row, Becomes}
+use Rattle.std.specs.Prelude.{Option, Some, None, IfSome}
 use Rattle.truth.proofs.Bits.{Eight, words_unique, equal_words}
 
 -- one set has the bits that f says
@@ -37,10 +38,16 @@ one_count t p q = one_reply p.0 q.0
 pub one_row_has : (rows : List ℕ) (i k : ℕ) {r s : Bool} → r ≡ row_of rows i k → s ≡ row_of rows i k → r ≡ s
 one_row_has rows i k = one_reply
 
-pub one_last_unlike : (rows : List ℕ) (i : ℕ) (t : List ℕ) (b : Bool) {r s : ℕ}
-    → r ≡ last_below 512 (unlike_in (row_of rows i) (bit_of t) b) → s ≡ last_below 512 (unlike_in (row_of rows i) (bit_of t) b)
-    → r ≡ s
-one_last_unlike rows i t b = one_reply
+pub one_last_unlike : (rows : List ℕ) (i : ℕ) (t : List ℕ) (b : Bool) {r s : Option ℕ}
+    → LastOf (unlike_in (row_of rows i) (bit_of t) b) r → LastOf (unlike_in (row_of rows i) (bit_of t) b) s → r ≡ s
+one_last_unlike rows i t b p q = one_number _ _ p.small q.small (p.number ∙ sym q.number)
+  where
+    -- None stands for 512, and no other number does
+    one_number : (r s : Option ℕ) → IfSome r (λ k. k < 512) → IfSome s (λ k. k < 512) → number_of r ≡ number_of s → r ≡ s
+    one_number None None h k e = refl
+    one_number None (Some k) h l e = absurd (omega arith)
+    one_number (Some k) None h l e = absurd (omega arith)
+    one_number (Some k) (Some m) h l e = ap Some e
 
 pub one_with_unlike : (d rows : List ℕ) (i : ℕ) (t : List ℕ) (b : Bool) {r s : List ℕ} → Eight r → Eight s
     → bit_of r ≡ joined (bit_of d) (unlike_in (row_of rows i) (bit_of t) b)

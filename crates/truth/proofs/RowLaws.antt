@@ -2,7 +2,7 @@
 -- A set either has no number below n or has its last one; a row's numbers are the bits of the list from i * 512 on.
 use mathlib.Core.Path.{◌≡◌, refl, sym, ap, ◌∙◌, fun_ext}
 use mathlib.Core.Logic.{◌⊎◌, inl, inr, ⊎_elim}
-use mathlib.Core.Bool.{Bool, true, false, cond, and-false}
+use mathlib.Core.Bool.{Bool, true, false, cond, and-false, and-eq-true_iff}
 use mathlib.Core.List.{List}
 use Prim.Native.Nat.{ℕ, zero, suc, ◌+◌, ◌-◌, ◌*◌, ◌/◌, ◌%◌, ◌<◌, ◌≤◌}
 use native.Mathlib.Nat.{add-zero, add-suc}
@@ -10,11 +10,12 @@ use native.Mathlib.Decide.{ℕ_discrete, dec_lt}
 use native.Mathlib.Omega.{arith}
 use lib.Dec.{ltb, eqb}
 use lib.ListN.{length}
-use borrow.Author.Tests.{eq-eqb, ne_eqb, lt-ltb, le-ltb, le-leb}
+use borrow.Author.Tests.{eq-eqb, ne_eqb, lt-ltb, le-ltb, le-leb, not-false}
+use Rattle.std.specs.Prelude.{Some, None}
 use Rattle.meaning.specs.Logic.{cases}
 use Rattle.truth.specs.Bits.{bit_of, updated}
-use Rattle.truth.specs.Rows.{row_of, unlike, unlike_in, last_below, with_bit, with_row, replaced, Becomes}
-use Rattle.truth.proofs.Bits.{bit_past, beq_self}
+use Rattle.truth.specs.Rows.{row_of, unlike, unlike_in, last_below, LastOf, with_bit, with_row, replaced, Becomes}
+use Rattle.truth.proofs.Bits.{bit_past, beq_self, beq_eq}
 
 -- ---- the last number
 pub last_zero : (p : ℕ → Bool) → last_below 0 p ≡ 512
@@ -39,15 +40,15 @@ last_is p k n l has none =
     ap (λ (x : ℕ). last_below x p) (sym e) ∙ last_skip p (suc k) (n - suc k) (λ j a b. none j a (omega arith)) ∙ rw has refl
 
 -- p has no number below n, or one that is the last
-record None (p : ℕ → Bool) (n : ℕ) : Type 0 where
+record NoneBelow (p : ℕ → Bool) (n : ℕ) : Type 0 where
   pub last : last_below n p ≡ 512
   pub nowhere : (k : ℕ) → k < n → p k ≡ false
 
-record Some (p : ℕ → Bool) (n : ℕ) : Type 0 where
+record SomeBelow (p : ℕ → Bool) (n : ℕ) : Type 0 where
   pub small : last_below n p < n
   pub here : p (last_below n p) ≡ true
 
-one_more : (p : ℕ → Bool) (n : ℕ) (b : Bool) → p n ≡ b → None p n ⊎ Some p n → None p (suc n) ⊎ Some p (suc n)
+one_more : (p : ℕ → Bool) (n : ℕ) (b : Bool) → p n ≡ b → NoneBelow p n ⊎ SomeBelow p n → NoneBelow p (suc n) ⊎ SomeBelow p (suc n)
 unfolding last_below
 one_more p n true e below = inr (record { small = rw e (omega arith); here = rw e e })
 one_more p n false e (inl none) = inl (record {
@@ -59,7 +60,7 @@ one_more p n false e (inl none) = inl (record {
 })
 one_more p n false e (inr some) = inr (record { small = rw e (omega (arith, some.small)); here = rw e some.here })
 
-none_or_some : (p : ℕ → Bool) (n : ℕ) → None p n ⊎ Some p n
+none_or_some : (p : ℕ → Bool) (n : ℕ) → NoneBelow p n ⊎ SomeBelow p n
 none_or_some p zero = inl (record { last = last_zero p; nowhere = λ k l. absurd (omega arith) })
 none_or_some p (suc n) = one_more p n (p n) refl (none_or_some p n)
 
@@ -73,7 +74,7 @@ pub last_within : (p : ℕ → Bool) (n : ℕ) → n ≤ 512 → last_below n p 
 last_within p n h = ⊎_elim (λ a. omega (arith, a.last)) (λ a. omega (arith, a.small)) (none_or_some p n)
 
 -- how far a number is from 512, which stands for none
-abbrev pub rank : ℕ → ℕ
+abbrev rank : ℕ → ℕ
 rank r = (r + 1) % 513
 
 last_rank : (p : ℕ → Bool) (n : ℕ) → n ≤ 512 → rank (last_below n p) ≤ n
@@ -88,17 +89,35 @@ last_smaller p q (suc n) h less l out = cases (p n)
     (λ t. let gone = rw t at out in rw (t, gone) (omega (arith, last_rank q n (omega arith))))
     (λ f. rw (f, less n f) (last_smaller p q n (omega arith) less (rw f at l) (rw f at out)))
 
--- the last number of a set at which f is not b: where it gets b, the last one is before it
-pub last_falls : (set f : ℕ → Bool) (b : Bool) {r : ℕ} → r ≡ last_below 512 (unlike_in set f b) → r < 512
-    → rank (last_below 512 (unlike_in set (updated f r b) b)) < rank r
+-- ---- the last number r of a set at which f is not b
+-- how far it is from none
+abbrev pub unlike_left : (set f : ℕ → Bool) → Bool → ℕ
+unlike_left set f b = rank (last_below 512 (unlike_in set f b))
+
+-- it is of the set
+pub last_member : (set f : ℕ → Bool) (b : Bool) {r : ℕ} → LastOf (unlike_in set f b) (Some r) → set r ≡ true
+unfolding unlike_in
+last_member set f b {r} last = ((and-eq-true_iff (set r) _).0 (last_some (unlike_in set f b) 512 r last.number last.small).1).0
+
+-- where it gets b, the last one is before it
+pub last_falls : (set f : ℕ → Bool) (b : Bool) {r : ℕ} → LastOf (unlike_in set f b) (Some r)
+    → unlike_left set (updated f r b) b < unlike_left set f b
 unfolding unlike_in updated
-last_falls set f b {r} e h =
+last_falls set f b {r} last =
+    let e : r ≡ last_below 512 (unlike_in set f b) = last.number in
     let out : unlike (updated f r b) b r ≡ false = rw (eq-eqb r r refl, beq_self b) refl in
     let gone : unlike_in set (updated f r b) b r ≡ false = rw out (and-false (set r)) in
     let less : (k : ℕ) → unlike_in set f b k ≡ false → unlike_in set (updated f r b) b k ≡ false = λ k o. cases (eqb k r)
     (λ t. rw (t, beq_self b) (and-false (set k))) (λ d. rw d o) in
     let falls = last_smaller (unlike_in set f b) (unlike_in set (updated f r b) b) 512 (omega arith) less in
-    rw (← e) at (falls (omega arith) (rw (← e) gone))
+    falls (omega (arith, e, last.small)) (rw (← e) gone)
+
+-- where there is none, f is b at each number of the set
+pub none_unlike : (set f : ℕ → Bool) (b : Bool) → LastOf (unlike_in set f b) None → (k : ℕ) → k < 512 → set k ≡ true
+    → f k ≡ b
+unfolding unlike_in
+none_unlike set f b last k l t =
+    beq_eq (f k) b (not-false _ (rw t at (last_none (unlike_in set f b) 512 (sym last.number) (omega arith) k l)))
 
 -- ---- rows
 -- a row that begins past the last word has nothing in it

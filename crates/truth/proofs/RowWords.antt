@@ -12,9 +12,10 @@ use lib.ListN.{length, get_or, set, length-set}
 use lib.Seq.{get_or-set_same, get_or-set_other}
 use borrow.Author.Tests.{eq-eqb, ne_eqb, lt-ltb, le-ltb}
 use Rattle.truth.specs.Bits.{bit_of, updated}
-use Rattle.truth.specs.Rows.{row_of, unlike, unlike_in, joined, last_below, replaced}
+use Rattle.truth.specs.Rows.{row_of, unlike, unlike_in, joined, last_below, replaced, LastOf}
+use Rattle.std.specs.Prelude.{Some, None}
 use Rattle.truth.proofs.Bits.{bit_at, bit_past}
-use Rattle.truth.proofs.RowLaws.{row_past, last_zero, last_skip, last_is}
+use Rattle.truth.proofs.RowLaws.{row_past, last_zero, last_skip, last_is, last_nowhere}
 use Rattle.truth.proofs.Flips.{word_updated}
 use Rattle.truth.proofs.Digits.{lit, op_lit, and_digits, or_digits, not_lit, pow_same, pow_other, lit_above, lit_top}
 
@@ -107,10 +108,14 @@ pub record Passed (p : ℕ → Bool) (w : ℕ) : Type 0 where
 pub passed_none : {p : ℕ → Bool} → Passed p 8
 passed_none = record { most = omega arith; same = refl }
 
-pub passed_all : {p : ℕ → Bool} {w : ℕ} → Passed p w → w ≤ 0 → 512 ≡ last_below 512 p
+pub passed_all : {p : ℕ → Bool} {w : ℕ} → Passed p w → w ≤ 0 → LastOf p None
 passed_all {p} {w} s h =
     let e : w * 64 ≡ 0 = omega arith in
-    sym (s.same ∙ ap (λ (x : ℕ). last_below x p) e ∙ last_zero p)
+    record { number = sym (s.same ∙ ap (λ (x : ℕ). last_below x p) e ∙ last_zero p); small = tt }
+
+-- nothing is there
+pub none_last : (p : ℕ → Bool) → ((k : ℕ) → k < 512 → p k ≡ false) → LastOf p None
+none_last p none = record { number = sym (last_nowhere p 512 none); small = tt }
 
 module _ {p : ℕ → Bool} {w r : ℕ} (s : Passed p w) (some_left : 0 < w) (word : Word p (w - 1) r) where
   one_less : last_below 512 p ≡ last_below ((w - 1) * 64 + 64) p
@@ -129,15 +134,18 @@ module _ {p : ℕ → Bool} {w r : ℕ} (s : Passed p w) (some_left : 0 < w) (wo
         ∙ lit_above 0 0 (k - (w - 1) * 64) (omega arith) (omega arith));
   }
 
-  pub passed_top : 0 < r → r < 2 ^ 64 → (w - 1) * 64 + (63 - count_leading_zeros 64 r) ≡ last_below 512 p
+  pub passed_top : 0 < r → r < 2 ^ 64 → LastOf p (Some ((w - 1) * 64 + (63 - count_leading_zeros 64 r)))
   passed_top pos fits =
       let top = leading_top 64 r pos fits in
       let j = top.0 in
       let at : 63 - count_leading_zeros 64 r ≡ j = omega (arith, top.1) in
       let small : j < 64 = omega (arith, top.1) in
-      rw at (sym (one_less ∙ last_is p ((w - 1) * 64 + j) ((w - 1) * 64 + 64) (omega arith)
-      (word.told j small ∙ lit_top r j top.2 top.3)
-      (λ k l h. in_word k (omega arith) h ∙ lit_above r (suc j) (k - (w - 1) * 64) top.3 (omega arith))))
+      rw at (record {
+        number = sym (one_less ∙ last_is p ((w - 1) * 64 + j) ((w - 1) * 64 + 64) (omega arith)
+            (word.told j small ∙ lit_top r j top.2 top.3)
+            (λ k l h. in_word k (omega arith) h ∙ lit_above r (suc j) (k - (w - 1) * 64) top.3 (omega arith)));
+        small = omega (arith, s.most);
+      })
 
 pub leading_small : (r : ℕ) → 0 < r → r < 2 ^ 64 → count_leading_zeros 64 r ≤ 63
 leading_small r pos fits = let top = leading_top 64 r pos fits in omega (arith, top.1)

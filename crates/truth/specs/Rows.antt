@@ -1,7 +1,7 @@
 -- DEFINITIONS: rows of sets: eight words each, one after the other in a list of words.
 -- Row i has number k where bit k of its eight words is set; so it is bit i * 512 + k of the whole list.
 use Rattle.std.specs.Prelude.{ℕ, zero, suc, ◌+◌, ◌*◌, ◌/◌, ◌%◌, ◌≡◌, Bool, true, not, cond, ◌&&◌, ◌||◌, List}
-use Rattle.std.specs.Prelude.{eqb, ltb, leb, length}
+use Rattle.std.specs.Prelude.{eqb, ltb, leb, length, ◌<◌, Option, Some, None, IfSome}
 use Rattle.std.specs.Bool.{beq}
 use Rattle.truth.specs.Bits.{bit_of, updated}
 
@@ -25,6 +25,16 @@ joined f g k = f k || g k
 unfoldable pub last_below : ℕ → (ℕ → Bool) → ℕ
 last_below zero p = 512
 last_below (suc n) p = cond (p n) n (last_below n p)
+
+-- a last number as an answer: None stands for the number 512
+abbrev pub number_of : Option ℕ → ℕ
+number_of None = 512
+number_of (Some k) = k
+
+-- r is the last number below 512 that p has; None where there is none
+pub record LastOf (p : ℕ → Bool) (r : Option ℕ) : Type 0 where
+  pub number : number_of r ≡ last_below 512 p
+  pub small : IfSome r (λ k. k < 512)
 
 -- bit `at` is set; where it is past the last word nothing is
 abbrev pub with_bit : List ℕ → ℕ → ℕ → Bool

@@ -26,7 +26,7 @@ pub fn has(t: [u64; 8], j: usize) -> bool
     (t[j / 64] >> (j % 64)) % 2 == 1
 }
 
-// The set with instance j in it or not, as b says: a number from 512 on leaves the set.
+// The set with instance j in it or not, as b says: a number from 512 on leaves the set as it is.
 pub fn put(t: [u64; 8], j: usize, b: bool) -> [u64; 8]
     ensures { bit_of result ≡ put_in (bit_of t) j b }
 {
@@ -35,23 +35,16 @@ pub fn put(t: [u64; 8], j: usize, b: bool) -> [u64; 8]
         return s;
     }
     if has(t, j) != b {
-        s[j / 64] = s[j / 64] ^ (1u64 << (j % 64));
+        s[j / 64] ^= 1u64 << (j % 64);
     }
     s
 }
 
-// Whether two sets have the same instances.
+// Whether two sets have the same instances: `==`, which callers take; it stays for its promise (`one_same`).
 pub fn same(a: [u64; 8], b: [u64; 8]) -> bool
     ensures { result ≡ same_below 512 (bit_of a) (bit_of b) }
 {
-    let mut i: usize = 0;
-    while i < 8 {
-        if a[i] != b[i] {
-            return false;
-        }
-        i += 1;
-    }
-    true
+    a == b
 }
 
 // How many instances are in the set: the number of set bits.
@@ -59,10 +52,9 @@ pub fn count(t: [u64; 8]) -> usize
     ensures { Counts t result }
 {
     let mut n: usize = 0;
-    let mut word: usize = 0;
-    while word < 8 {
-        n += u64::count_ones(t[word]) as usize;
-        word += 1;
+    for word in t {
+        // A cast: usize has no From<u32>.
+        n += word.count_ones() as usize;
     }
     n
 }

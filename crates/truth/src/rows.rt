@@ -2,13 +2,13 @@
 // not there has nothing in it.
 ghost use Rattle.std.specs.Prelude.{◌≡◌, [], ◌∷◌, get_or};
 ghost use Rattle.truth.specs.Bits.{bit_of};
-ghost use Rattle.truth.specs.Rows.{row_of, unlike_in, joined, last_below, with_bit, with_row, Becomes};
+ghost use Rattle.truth.specs.Rows.{row_of, unlike_in, joined, LastOf, with_bit, with_row, Becomes};
 
 // The word at a place; 0 past the end.
 fn word_at(rows: &[u64], at: usize) -> u64
     ensures { result ≡ get_or rows.now at 0 }
 {
-    if at < rows.len() { rows[at] } else { 0 }
+    rows.get(at).copied().unwrap_or(0)
 }
 
 // The bits of a word at which another one is not b.
@@ -31,22 +31,21 @@ pub fn row_has(rows: &[u64], i: usize, k: usize) -> bool
     (word_at(rows, i * 8 + k / 64) >> (k % 64)) % 2 == 1
 }
 
-// The last number of row i at which the set t is not b; 512 where there is none.
-pub fn last_unlike(rows: &[u64], i: usize, t: [u64; 8], b: bool) -> usize
-    ensures { result ≡ last_below 512 (unlike_in (row_of rows.now i) (bit_of t) b) }
+// The last number of row i at which the set t is not b.
+pub fn last_unlike(rows: &[u64], i: usize, t: [u64; 8], b: bool) -> Option<usize>
+    ensures { LastOf (unlike_in (row_of rows.now i) (bit_of t) b) result }
 {
     if rows.len() <= i {
-        return 512;
+        return None;
     }
-    let mut word: usize = 8;
-    while 0 < word {
-        word -= 1;
+    for word in (0..8).rev() {
         let bits = unlike(word_at(rows, i * 8 + word), t[word], b);
         if bits != 0 {
-            return word * 64 + (63 - u64::leading_zeros(bits) as usize);
+            // A cast: usize has no From<u32>.
+            return Some(word * 64 + (63 - bits.leading_zeros() as usize));
         }
     }
-    512
+    None
 }
 
 // The set d with the numbers of row i at which the set t is not b.
@@ -57,10 +56,8 @@ pub fn with_unlike(d: [u64; 8], rows: &[u64], i: usize, t: [u64; 8], b: bool) ->
     if rows.len() <= i {
         return s;
     }
-    let mut word: usize = 0;
-    while word < 8 {
-        s[word] = s[word] | unlike(word_at(rows, i * 8 + word), t[word], b);
-        word += 1;
+    for word in 0..8 {
+        s[word] |= unlike(word_at(rows, i * 8 + word), t[word], b);
     }
     s
 }
@@ -70,7 +67,7 @@ pub fn mark(rows: &mut [u64], at: usize)
     ensures { Becomes rows.old rows.new (with_bit rows.old at) }
 {
     if at / 64 < rows.len() {
-        rows[at / 64] = rows[at / 64] | (1u64 << (at % 64));
+        rows[at / 64] |= 1u64 << (at % 64);
     }
 }
 
@@ -81,9 +78,7 @@ pub fn put_row(ws: &mut [u64], i: usize, t: [u64; 8])
     if ws.len() / 8 <= i {
         return;
     }
-    let mut word: usize = 0;
-    while word < 8 {
+    for word in 0..8 {
         ws[i * 8 + word] = t[word];
-        word += 1;
     }
 }

@@ -7,22 +7,20 @@ ghost use Rattle.formulas.specs.Tuples.{items};
 ghost use Rattle.words.specs.Unpacked.{equation_number, argument_tuple};
 ghost use Rattle.words.specs.Counts.{count_with};
 
-use basics::wide;
 use formulas::{Tuple, item};
 
 // The word of an equation's instance with these arguments; absent ones are 0.
 pub fn word_of(equation: u8, arguments: Tuple) -> u32
     ensures { result ≡ word (equation ∷ items arguments) }
 {
-    let p = wide(item(arguments, 0));
-    let q = wide(item(arguments, 1));
-    let r = wide(item(arguments, 2));
-    let s = wide(item(arguments, 3));
-    let whole = wide(equation) * 65536 + p * 4096 + q * 256 + r * 16 + s;
-    whole as u32
+    let p = u32::from(item(arguments, 0));
+    let q = u32::from(item(arguments, 1));
+    let r = u32::from(item(arguments, 2));
+    let s = u32::from(item(arguments, 3));
+    u32::from(equation) * 65536 + p * 4096 + q * 256 + r * 16 + s
 }
 
-// The number of the equation that a word names.
+// The number of the equation that a word names. A cast: of no `u32` is there a `From` to `usize`.
 pub fn equation_number(w: u32) -> usize
     ensures { result ≡ equation_number w }
 {
@@ -44,7 +42,7 @@ pub fn argument_tuple(w: u32, k: u8) -> Tuple
             0,
             0,
         ],
-        count: basics::smaller(wide(k), 4),
+        count: usize::from(k).min(4),
     }
 }
 
@@ -52,13 +50,7 @@ pub fn argument_tuple(w: u32, k: u8) -> Tuple
 pub fn count_with(equation: usize, list: &[u32]) -> usize
     ensures { result ≡ count_with equation list.now }
 {
-    let mut count: usize = 0;
-    let mut i: usize = 0;
-    while i < list.len() {
-        if equation_number(list[i]) == equation {
-            count += 1;
-        }
-        i += 1;
-    }
-    count
+    list.iter()
+        .filter(|w| equation_number(**w) == equation)
+        .count()
 }

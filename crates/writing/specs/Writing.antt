@@ -1,12 +1,22 @@
 -- DEFINITIONS: what an operation answers that writes a text into a lent buffer, and what it leaves there.
 -- Document 01: "a buffer's bytes past the text written into it stay"; requests: "nothing is written on any".
-use Rattle.std.specs.Prelude.{ℕ, ◌+◌, ◌≡◌, Bool, cond, List, eqb, leb, length}
+use Rattle.std.specs.Prelude.{ℕ, ◌+◌, ◌≡◌, Bool, cond, List, Result, Ok, Err, eqb, leb, length}
 use Rattle.std.proofs.lemmas.List.Edits.{sets}
+use Rattle.refusals.specs.declared.Refusal.{Refusal as WhyNot}
+use Rattle.refusals.specs.Numbers.{number_of}
 use Rattle.reading.specs.Reading.{Refusal}
 use Rattle.writing.specs.declared.Writing.{Writing}
 
 abbrev pub refusal_reply : ℕ → ℕ → Writing
 refusal_reply number line = record { number = number; line = line; length = 0 }
+
+-- what an operation replies that says how many bytes it wrote, or why it wrote none
+abbrev pub refusal_written : WhyNot → Writing
+refusal_written r = refusal_reply (number_of r.reason) r.line
+
+abbrev pub reply_to : Result ℕ WhyNot → Writing
+reply_to (Ok length) = record { number = 0; line = 0; length = length }
+reply_to (Err r) = refusal_written r
 
 -- ---- an operation that refuses by r, number and line 0 where it does not, and then writes `text`
 

@@ -11,4 +11,4 @@ returns-then-r-eq0 c = rw (eq-eqb _ 0 c.if-r-eq0.true) refl
 
 pub returns : goal.returns
 unfolding reply_word
-returns c = rw (ne_eqb _ 0 c.if-r-eq0.false) refl
+returns c = rw (ne_eqb _ 0 c.if-r-eq0.false, c.from-number.ensures) refl

@@ -9,6 +9,4 @@ returns-then-characters-i c = sym (byte_beyond _ _ c.if-characters-i.true)
 
 pub returns : goal.returns
 returns c =
-    let left = c.before.before.before.before.before in
-    c.pair.ensures ∙
-    rw (c.worth-high.ensures, c.worth-low.ensures) (sym (byte_in _ _ left.if-characters-i.false))
+    c.pair.ensures ∙ rw (c.worth-high.ensures, c.worth-low.ensures) (sym (byte_in _ _ c.if-characters-i.false))

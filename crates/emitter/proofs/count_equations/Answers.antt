@@ -33,15 +33,12 @@ module _ {sheet : List ℕ} {r : Skipped} (skipped : Skips sheet 1 r) {code : �
         );
   }
 
-pub overflow_add-result : goal.overflow_add-result
-overflow_add-result c = omega (arith, c.skip-s.ensures.few)
-
 pub returns-then-is_fixed : goal.returns-then-is_fixed
 returns-then-is_fixed c =
-    begun c.skip-s.ensures c.element.ensures
+    begun c.skip-count.ensures c.element.ensures
     (sym c.if-is_fixed.true ∙ c.is_fixed.ensures)
 
 pub returns-else-is_fixed : goal.returns-else-is_fixed
 returns-else-is_fixed c =
-    enclosed c.skip-s.ensures c.element.ensures
+    enclosed c.skip-count.ensures c.element.ensures
     (sym c.if-is_fixed.false ∙ c.is_fixed.ensures)

@@ -6,6 +6,7 @@ use mathlib.Core.Path.{◌≡◌, refl, sym, ap, ◌∙◌}
 use mathlib.Core.Bool.{true, false}
 use mathlib.Core.List.{List}
 use lib.ListN.{get_or}
+use Rattle.std.specs.Prelude.{Option, Some, None, IsSomeAnd}
 use Rattle.spelling.specs.Spelled.{either_code}
 use Rattle.translation.specs.RuleLaws.{input_formula}
 use Rattle.translation.specs.Translation.{translated}
@@ -18,23 +19,28 @@ use Rattle.emitter.proofs.Heads.{nth_begun, nth_enclosed, first_enclosed}
 use Rattle.emitter.proofs.SheetHeads.{formula_stands, begins_fixed}
 use Rattle.emitter.proofs.head_of.Goals as goal
 
+-- what is told of a value, told otherwise
+some_as : {A : Type 0} {P Q : A → Type 0} (r : Option A) → IsSomeAnd r P → ((a : A) → P a → Q a) → IsSomeAnd r Q
+some_as (Some a) p f = f a p
+some_as None p f = p
+
 module _ {sheet : List ℕ} {code : ℕ} (code_is : code ≡ get_or sheet 4353 0) where
-  begun : {e : ℕ} {r : Head} → true ≡ is_fixed code → FixedTold sheet e r → HeadTold sheet e r
+  begun : {e : ℕ} {r : Option Head} → true ≡ is_fixed code → FixedTold sheet e r → HeadTold sheet e r
   begun {e} {r} t fixed = record {
     told = λ process f g few inside.
         let b = begins_fixed g code_is t in
         let count = count_begun process f b in
-        record {
+        some_as r (fixed.told process f g (omega arith)) (λ h head. record {
           greatest = (get_or (fixed_in f) e no_fixed).greatest;
           inner = (get_or (fixed_in f) e no_fixed).inner;
           number = e + 1;
           equation = nth_begun process f b e (omega arith);
-          head = fixed.told process f g (omega arith);
+          head = head;
           keeps = nth_inner f (input_formula process f g.formed) e (omega arith) (omega arith);
-        };
+        });
   }
 
-  whole : false ≡ is_fixed code → HeadTold sheet 0 (record { sign = 1; at = 1; number = 0 })
+  whole : false ≡ is_fixed code → HeadTold sheet 0 (Some (record { sign = 1; at = 1; number = 0 }))
   unfolding either_code
   whole t = record {
     told = λ process f g few inside.
@@ -50,21 +56,21 @@ module _ {sheet : List ℕ} {code : ℕ} (code_is : code ≡ get_or sheet 4353 0
         };
   }
 
-  behind : (e : ℕ) {r : Head} → false ≡ is_fixed code → 0 < e → FixedTold sheet (e - 1) r → HeadTold sheet e r
+  behind : (e : ℕ) {r : Option Head} → false ≡ is_fixed code → 0 < e → FixedTold sheet (e - 1) r → HeadTold sheet e r
   behind e {r} t some fixed = record {
     told = λ process f g few inside.
         let b = begins_fixed g code_is t in
         let count = count_enclosed process f b in
         let n : e ≡ suc (e - 1) = omega arith in
-        record {
+        some_as r (fixed.told process f g (omega arith)) (λ h head. record {
           greatest = (get_or (fixed_in f) (e - 1) no_fixed).greatest;
           inner = (get_or (fixed_in f) (e - 1) no_fixed).inner;
           number = e - 1 + 1;
           equation =
               ap (λ (i : ℕ). get_or (translated process f) i no_equation) n ∙ nth_enclosed process f b (e - 1) (omega arith);
-          head = fixed.told process f g (omega arith);
+          head = head;
           keeps = nth_inner f (input_formula process f g.formed) (e - 1) (omega arith) (omega arith);
-        };
+        });
   }
 
 pub returns-then-is_fixed : goal.returns-then-is_fixed

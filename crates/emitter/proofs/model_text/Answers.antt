@@ -2,7 +2,7 @@
 -- The equations are counted, and put line by line; where they are too many, or one is too large, there is no text.
 use Prim.Native.Nat.{ℕ}
 use native.Mathlib.Omega.{arith}
-use mathlib.Core.Path.{refl, sym, ◌∙◌}
+use mathlib.Core.Path.{sym, ◌∙◌}
 use mathlib.Core.List.{List}
 use Rattle.translation.specs.Processes.{Process}
 use Rattle.translation.specs.Modal.{Modal}
@@ -20,18 +20,17 @@ returns-then-count-gt8 c =
     record {
       told = λ process f g.
           let counted = c.count_equations-count.ensures.told process f g in
-          c.no_text.ensures ∙ too_many process f (omega arith);
+          too_many process f (omega arith);
     }
 
-pub returns-then-at-gt4117 : goal.returns-then-at-gt4117
-returns-then-at-gt4117 c =
+pub returns-in_err-at : goal.returns-in_err-at
+returns-in_err-at c =
     let places = c.places_of-places.ensures in
     let counted = c.count_equations-count.ensures in
     record {
       told = λ process f g.
-          c.no_text-then-at-gt4117.ensures ∙
-          one_too_large c.put_equations-at.ensures (omega arith) g (placed_for places g)
-          (sym (counted.told process f g)) c.if-at-gt4117.true;
+          c.from_residual.ensures ∙
+          one_too_large (omega arith) g (placed_for places g) (sym (counted.told process f g)) c.in_err-at.ensures;
     }
 
 pub returns : goal.returns
@@ -40,10 +39,6 @@ returns c =
     let counted = c.count_equations-count.ensures in
     record {
       told = λ process f g.
-          whole_text c.put_equations-at.ensures (omega arith) g (placed_for places g)
-          (sym (counted.told process f g)) c.if-at-gt4117.false
+          whole_text (omega arith) g (placed_for places g) (sym (counted.told process f g)) c.in_ok-at.ensures
           (c.put_start-length.ensures.told process f g);
     }
-
-pub put_equations-at-requires : goal.put_equations-at-requires
-put_equations-at-requires c = (omega arith, refl)

@@ -1,6 +1,6 @@
 -- `emitter::put_equations` meets its contract.
 -- Before turn e the lines of the first e equations are put; where one does not fit, not all of them fit.
-use Prim.Native.Nat.{ℕ, ◌-◌, ◌≤◌}
+use Prim.Native.Nat.{ℕ, ◌≤◌}
 use mathlib.Core.Path.{◌≡◌}
 use mathlib.Core.List.{List}
 use lib.ListN.{length}
@@ -21,6 +21,3 @@ pub record Putting (sheet places : List ℕ) (count : ℕ) (text : List ℕ) (at
 
 abbrev pub invariant-loop-e : goal.invariant-loop-e
 invariant-loop-e l = Putting l.sheet l.places l.count l.text l.at l.e
-
-abbrev pub decreases-loop-e : goal.decreases-loop-e
-decreases-loop-e l = l.count - l.e

@@ -6,6 +6,7 @@ use mathlib.Core.Path.{◌≡◌, refl, sym, ◌∙◌}
 use mathlib.Core.List.{List}
 use lib.ListN.{length, get_or, set, length-set}
 use lib.Seq.{sets}
+use borrow.Author.Rules.{rules}
 use Rattle.formulas.specs.Contract.{part}
 use Rattle.emitter.proofs.SheetHeads.{parameters, few_parameters, ranges_read}
 use Rattle.emitter.proofs.put_head.Invariants.{Putting}
@@ -34,9 +35,6 @@ module _ {sheet frame₀ : List ℕ} {k : ℕ} {frame : List ℕ} {i : ℕ} (p :
       let e : k - i ≡ 0 = omega arith in
       rw e at p.left
 
-pub loop-i-init : goal.loop-i-init
-loop-i-init c = putting_start _ _ _ (omega (arith, c.smaller-k.ensures)) (simp length-set c.requires)
-
 pub loop-i-preserved : goal.loop-i-preserved
 loop-i-preserved c =
     let sheet = c.args.sheet.now in
@@ -45,26 +43,18 @@ loop-i-preserved c =
       few = inv.few;
       near = omega arith;
       long = rw length-set inv.long;
-      left =
-          rw c.element-in-loop-i.ensures
-          (step sheet c.loop-i.frame _ c.loop-i.i c.loop-i-test.true ∙ inv.left);
+      left = rw c.element.ensures (step sheet c.loop-i.frame _ c.loop-i.i c.loop-i-test.true ∙ inv.left);
     }
 
 pub returns : goal.returns
 returns c =
     let inv = c.loop-i.invariant in
+    let long : length c.args.frame.now ≡ 256 = search rules in
     record {
-      size = inv.long ∙ sym c.requires;
+      size = inv.long ∙ sym long;
       few = omega arith;
       told = λ process f g.
-          let k : c.smaller-k.result ≡ length process.ranges =
-          omega (
-            arith,
-            c.smaller-k.ensures,
-            c.wide.ensures.0,
-            c.element.ensures,
-            parameters g,
-            few_parameters g,
-          ) in
-          (omega (arith, k), all_put inv c.loop-i-test.false ∙ rw (k, ranges_read g) refl);
+          let k : c.from-count.result ≡ length process.ranges =
+          omega (arith, c.from-count.ensures, c.parameters-k.ensures, parameters g, few_parameters g) in
+          (omega (arith, k), all_put inv c.loop-i-test.false ∙ rw (← c.from-count.ensures, k, ranges_read g) refl);
     }

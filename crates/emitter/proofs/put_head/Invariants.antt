@@ -15,7 +15,4 @@ pub record Putting (sheet frame₀ : List ℕ) (k : ℕ) (frame : List ℕ) (i :
   pub left : sets frame (3 + i) (part sheet (2 + i) (k - i)) ≡ sets frame₀ 3 (part sheet 2 k)
 
 abbrev pub invariant-loop-i : goal.invariant-loop-i
-invariant-loop-i l = Putting l.sheet l.initial.frame l.k l.frame l.i
-
-abbrev pub decreases-loop-i : goal.decreases-loop-i
-decreases-loop-i l = l.k - l.i
+invariant-loop-i l = Putting l.sheet l.initial.frame l.count l.frame l.i

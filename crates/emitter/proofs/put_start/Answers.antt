@@ -2,10 +2,9 @@
 -- At most four values follow the ranges; as many of them as there are parameters are the initial ones.
 use Prim.Native.Nat.{ℕ, zero, suc, ◌+◌, ◌≤◌}
 use native.Mathlib.Omega.{arith}
-use mathlib.Core.Path.{◌≡◌, refl, sym, ap, ◌∙◌}
+use mathlib.Core.Path.{◌≡◌, refl, ap, ◌∙◌}
 use mathlib.Core.List.{List, [], ◌∷◌}
 use lib.ListN.{length, get_or, take}
-use lib.Seq.{length-take-le}
 use Rattle.formulas.specs.Contract.{part}
 use Rattle.spelling.specs.Spelled.{start_frame}
 use Rattle.translation.specs.Processes.{Process}
@@ -47,21 +46,13 @@ start_bytes {process} {f} {sheet} g k e =
     ap (λ (m : ℕ). part sheet (2 + m) m) e ∙ initial_read g in
     rw (a, b, d) (after_two k _ ∙ ap (λ (l : List ℕ). 2 ∷ 0 ∷ l) values)
 
-pub slice_bounds-put_line-end : goal.slice_bounds-put_line-end
-slice_bounds-put_line-end c =
-    let k = c.smaller-k in
-    sym (length-take-le _ _ (omega (arith, k.ensures)))
-
 pub returns : goal.returns
 returns c =
-    let k = c.smaller-k in
-    let wide = c.wide in
-    let count = c.element in
     record {
       told = λ process f g.
           rw (
-            ← start_bytes g k.result
-                (omega (arith, k.ensures, wide.ensures.0, count.ensures, parameters g, few_parameters g)),
+            ← start_bytes g c.from-k.result
+                (omega (arith, c.from-k.ensures, c.parameters.ensures, parameters g, few_parameters g)),
             ← c.element-a.ensures,
             ← c.element-b.ensures,
             ← c.element-c.ensures,

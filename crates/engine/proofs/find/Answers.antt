@@ -1,16 +1,17 @@
 -- Finding in a whole text: refused as reading says, or found.
 -- What is read is the reading of the text; the rest is a law of `Examining`.
-use Rattle.engine.proofs.Examining.{from_text, counted_refused, examined_judged}
+use Rattle.engine.proofs.Examining.{from_text, handed_on, counted_refused, examined_judged}
 use Rattle.engine.proofs.find.Goals as goal
 
-pub returns-then-number-ne0 : goal.returns-then-number-ne0
-returns-then-number-ne0 c =
-    counted_refused _ c.read_model-r.ensures c.if-number-ne0.true c.refuse-a.ensures
+pub returns-in_err-read-clause-examines : goal.returns-in_err-read-clause-examines
+returns-in_err-read-clause-examines c =
+    rw (handed_on _ _ c.from_residual.ensures.1) (counted_refused _ _ c.in_err-read.ensures)
 
-pub returns : goal.returns
-returns c =
-    let from = from_text _ c.read_model-r.ensures c.if-number-ne0.false in
-    examined_judged from (c.find_model-a.ensures _ from)
+pub find_model-answer-requires : goal.find_model-answer-requires
+find_model-answer-requires c = (_, from_text _ c.in_ok-read.ensures)
 
-pub find_model-a-requires : goal.find_model-a-requires
-find_model-a-requires c = (_, from_text _ c.read_model-r.ensures c.if-number-ne0.false)
+pub returns-clause-examines : goal.returns-clause-examines
+returns-clause-examines c =
+    let from = from_text _ c.in_ok-read.ensures in
+    rw c.with_model.ensures.told
+    (examined_judged from from.records_same (c.find_model-answer.ensures.judges _ from))

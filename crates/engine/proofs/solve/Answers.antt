@@ -3,17 +3,19 @@
 use Prim.Native.Nat.{ℕ}
 use mathlib.Core.Path.{refl}
 use lib.ListN.{length-replicate}
-use Rattle.engine.proofs.Examining.{from_text, solved_refused, examined_solved}
+use Rattle.engine.proofs.Examining.{from_text, handed_on, solved_refused, examined_solved}
 use Rattle.engine.proofs.solve.Goals as goal
 
-pub returns-then-refused-ne0 : goal.returns-then-refused-ne0
-returns-then-refused-ne0 c =
-    solved_refused _ c.read_model-r.ensures c.if-refused-ne0.true c.refuse-a.ensures
+pub returns-in_err-read-clause-solves : goal.returns-in_err-read-clause-solves
+returns-in_err-read-clause-solves c =
+    rw (handed_on _ _ c.from_residual.ensures.1) (solved_refused _ _ c.in_err-read.ensures)
 
-pub returns : goal.returns
-returns c =
-    let from = from_text _ c.read_model-r.ensures c.if-refused-ne0.false in
-    examined_solved from ((c.examine_model-a.ensures _ from).solves refl (length-replicate {A = ℕ} 512 0))
+pub examine_model-answer-requires : goal.examine_model-answer-requires
+examine_model-answer-requires c = (_, from_text _ c.in_ok-read.ensures)
 
-pub examine_model-a-requires : goal.examine_model-a-requires
-examine_model-a-requires c = (_, from_text _ c.read_model-r.ensures c.if-refused-ne0.false)
+pub returns-clause-solves : goal.returns-clause-solves
+returns-clause-solves c =
+    let from = from_text _ c.in_ok-read.ensures in
+    rw c.with_model.ensures.told
+    (examined_solved from from.records_same
+    ((c.examine_model-answer.ensures.examines _ from).solves refl (length-replicate {A = ℕ} 512 0)))

@@ -2,7 +2,7 @@
 -- The invariant: table and rows are in the midst of the search, the first i of its instances are taken.
 -- The measure is the room that is not yet taken.
 use native.Mathlib.Omega.{arith}
-use mathlib.Core.Path.{refl, ◌∙◌}
+use mathlib.Core.Path.{refl}
 use mathlib.Core.Bool.{true≢false}
 use Rattle.finding.proofs.Finding.{search_starts, search_on, search_over, no_room, all_found}
 use Rattle.finding.proofs.FoundGraph.{drawing_starts, drawing_on, all_drawn}
@@ -22,13 +22,13 @@ pub loop-i-init : goal.loop-i-init
 loop-i-init c = (search_starts c.args.table.now _ (omega arith) c.requires refl refl, drawing_starts)
 
 -- there is no room for all that comes next
-pub returns-then-room-n : goal.returns-then-room-n
-returns-then-room-n c =
+pub returns-then-room-side : goal.returns-then-room-side
+returns-then-room-side c =
     let s = c.loop-i.invariant.0 in
     record {
       few = omega arith;
       found = record {
-        finds = λ count first h. search_over h s c.loop-i-test.true c.gather_side-side.ensures c.if-room-n.true;
+        finds = λ count first h. search_over h s c.loop-i-test.true c.gather_side-side.ensures c.if-room-side.true;
         draws = λ count first h over. absurd (true≢false over);
       };
     }
@@ -37,7 +37,7 @@ returns-then-room-n c =
 pub loop-i-preserved : goal.loop-i-preserved
 loop-i-preserved c =
     let l = c.loop-i.invariant in
-    let fits = c.if-room-n.false in (
+    let fits = c.if-room-side.false in (
       search_on l.0 c.loop-i-test.true c.gather_side-side.ensures fits,
       drawing_on l.0 l.1 c.loop-i-test.true c.gather_side-side.ensures fits c.equation_number.ensures
           c.draw_side.ensures,
@@ -54,15 +54,3 @@ returns c =
         draws = all_drawn l.0 l.1 c.loop-i-test.false;
       };
     }
-
-pub shape_of-table-then-room-n : goal.shape_of-table-then-room-n
-shape_of-table-then-room-n c = c.gather_side-side.ensures.size ∙ c.loop-i.invariant.0.lent
-
-pub shape_of-graph-then-room-n : goal.shape_of-graph-then-room-n
-shape_of-graph-then-room-n c = c.loop-i.invariant.1.size
-
-pub shape_of-table : goal.shape_of-table
-shape_of-table c = c.loop-i.invariant.0.lent
-
-pub shape_of-graph : goal.shape_of-graph
-shape_of-graph c = c.loop-i.invariant.1.size

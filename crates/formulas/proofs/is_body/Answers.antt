@@ -1,8 +1,11 @@
 -- `formulas::is_body` meets its contract.
 -- Something was read, and it ends where the body ends.
-use mathlib.Core.Path.{◌∙◌}
-use Rattle.formulas.proofs.Bodies.{body_judged}
+use Rattle.std.proofs.Common.{rules, ◌≡◌, length, [], ◌∙◌}
+use Rattle.formulas.proofs.Bodies.{ends_there, body_known}
 use Rattle.formulas.proofs.is_body.Goals as goal
 
 pub returns : goal.returns
-returns c = c.and.ensures ∙ body_judged _ _ c.read_body-a.ensures
+returns c =
+    let a = c.args in
+    let asked : c.is_some_and.result ≡ ends_there (length a.body.now) c.read_body.result = search rules in
+    asked ∙ body_known a.body.now a.e [] 0 c.read_body.result c.read_body.ensures

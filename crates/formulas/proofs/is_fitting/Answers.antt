@@ -1,14 +1,11 @@
 -- `formulas::is_fitting` meets its contract.
 -- What is told of the formula that was read; where none was read, nothing is wrong with its instances.
-use Rattle.formulas.proofs.Bodies.{fitting_found, fitting_lost}
+use Rattle.std.proofs.Common.{rules, ◌≡◌, ◌∙◌}
+use Rattle.formulas.proofs.Bodies.{fits_there, fitting_known}
 use Rattle.formulas.proofs.is_fitting.Goals as goal
 
-pub returns-then-a : goal.returns-then-a
-returns-then-a c =
+pub returns : goal.returns
+returns c =
     let a = c.args in
-    fitting_found a.body.now a.e a.equations a.count (rw c.if-a.true at c.read_body-a.ensures)
-
-pub returns-else-a : goal.returns-else-a
-returns-else-a c =
-    let a = c.args in
-    fitting_lost a.body.now a.e a.equations a.count (rw c.if-a.false at c.read_body-a.ensures)
+    let asked : c.is_none_or.result ≡ fits_there c.read_body.result = search rules in
+    asked ∙ fitting_known a.body.now a.e a.equations a.count c.read_body.result c.read_body.ensures

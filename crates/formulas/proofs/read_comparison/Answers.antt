@@ -1,18 +1,16 @@
 -- `formulas::read_comparison` meets its contract: two terms, in which nothing can misfit.
--- Where the first can't be read there are no two.
-use native.Mathlib.Omega.{arith}
-use mathlib.Core.Path.{refl}
-use borrow.Author.Tests.{not-true, not-false}
+-- Where one of them can't be read there are no two.
+use Rattle.std.proofs.Common.{arith, refl}
 use Rattle.formulas.proofs.ByKind as law
 use Rattle.formulas.proofs.read_comparison.Goals as goal
 
-pub returns-then-not-a : goal.returns-then-not-a
-returns-then-not-a c =
-    rw c.result.ensures
-    (law.terms_stop (omega arith) c.read_term-a.ensures (not-true _ c.if-not-a.true))
+pub returns-in_err-a : goal.returns-in_err-a
+returns-in_err-a c = rw c.from_residual.ensures (law.terms_stop (omega arith) c.in_err-a.ensures)
+
+pub returns-in_err-b : goal.returns-in_err-b
+returns-in_err-b c =
+    rw c.from_residual-in_err-b.ensures
+    (law.terms_map (law.two_terms c.in_ok-a.ensures c.in_err-b.ensures) (λ _ _. tt))
 
 pub returns : goal.returns
-returns c =
-    rw c.result-2.ensures
-    (law.terms_map (law.two_terms c.read_term-a.ensures (not-false _ c.if-not-a.false)
-    c.read_term-b.ensures) (λ _ _. refl))
+returns c = law.terms_map (law.two_terms c.in_ok-a.ensures c.in_ok-b.ensures) (λ _ _. refl)

@@ -8,4 +8,4 @@ pub returns : goal.returns
 returns c =
     let a = c.args in
     part_cut a.bodies.now (a.w / 65536 * 512) 512
-    (rw (← c.equation_number.ensures) c.smaller-first.ensures) c.smaller.ensures
+    (rw (← c.equation_number.ensures) c.min-first.ensures) c.min-end.ensures

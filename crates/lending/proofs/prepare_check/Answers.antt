@@ -2,12 +2,16 @@
 -- The short list is judged before the text is examined, and then the table is as it was.
 use mathlib.Core.Path.{refl}
 use Rattle.engine.specs.Examined.{whole}
-use Rattle.lending.proofs.Agree.{short_table, long_table}
+use Rattle.lending.proofs.Agree.{short_refused, long_room, short_table, long_table}
 use Rattle.lending.proofs.prepare_check.Goals as goal
 
-pub returns-then-room-lt8 : goal.returns-then-room-lt8
-returns-then-room-lt8 c = short_table whole c.if-room-lt8.true c.refuse_short_list.ensures
+pub returns-in_err-judge_room : goal.returns-in_err-judge_room
+returns-in_err-judge_room c =
+    let short = short_refused _ _ _ c.in_err-judge_room.ensures c.from_residual.ensures.1 in
+    rw short.1 (short_table _ _ whole short.0)
 
 pub returns : goal.returns
 returns c =
-    long_table whole whole (λ a. (refl, refl)) c.if-room-lt8.false c.examine-e.ensures c.prepare.ensures
+    let examined = c.examine.ensures in
+    long_table _ _ whole whole (λ a. (refl, refl)) (long_room _ c.in_ok-judge_room.ensures) _ examined.accepted
+    examined.examines

@@ -1,6 +1,6 @@
 -- `prepared::end_at` meets its contract.
 -- The definition makes the same test.
-use mathlib.Core.Path.{refl}
+use Rattle.std.proofs.Common.{arith, refl}
 use borrow.Author.Tests.{lt-ltb, le-ltb}
 use Rattle.prepared.specs.Prepared.{end_at}
 use Rattle.prepared.proofs.end_at.Goals as goal
@@ -11,4 +11,4 @@ returns-then-i-ge256 c = rw (le-ltb _ 256 c.if-i-ge256.true) refl
 
 pub returns : goal.returns
 unfolding end_at
-returns c = rw (lt-ltb _ 256 c.if-i-ge256.false, c.wide.ensures.0, c.element.ensures) refl
+returns c = rw (lt-ltb _ 256 c.if-i-ge256.false) (omega (arith, c.element.ensures))

@@ -7,5 +7,5 @@ use Rattle.preparing.proofs.body_of.Goals as goal
 pub returns : goal.returns
 returns c =
     let a = c.args in
-    body_cut a.bodies.now (a.e * 256) a.size c.smaller-from.ensures c.smaller-room.ensures
-    c.smaller-to.ensures
+    body_cut a.bodies.now (a.e * 256) a.size c.min-from.ensures c.min-room.ensures
+    c.min-to.ensures

@@ -10,11 +10,11 @@ use Rattle.preparing.proofs.mark.Goals as goal
 
 pub returns : goal.returns
 returns c =
-    let ended : let a = c.args in c.smaller-next.result ≡ min (parts_end a.body.now a.out.now a.at) 256 =
+    let ended : let a = c.args in c.min-next.result ≡ min (parts_end a.body.now a.out.now a.at) 256 =
     let a = c.args in
     end_found a.body.now a.out.now a.at c.element-code.ensures
     c.element.ensures c.parts_of-parts.ensures c.width_of.ensures c.after-end.ensures
-    c.smaller-next.ensures in
+    c.min-next.ensures in
     marked_more c.requires.2 c.requires.0 c.requires.1 ended
 
 pub overflow_add-at-2 : goal.overflow_add-at-2
@@ -24,22 +24,22 @@ overflow_add-at-2 c =
 
 pub overflow_sub-out : goal.overflow_sub-out
 overflow_sub-out c =
-    let ended : let a = c.args in c.smaller-next.result ≡ min (parts_end a.body.now a.out.now a.at) 256 =
+    let ended : let a = c.args in c.min-next.result ≡ min (parts_end a.body.now a.out.now a.at) 256 =
     let a = c.args in
     end_found a.body.now a.out.now a.at c.element-code.ensures
     c.element.ensures c.parts_of-parts.ensures c.width_of.ensures c.after-end.ensures
-    c.smaller-next.ensures in
-    let past : c.args.at < c.smaller-next.result =
+    c.min-next.ensures in
+    let past : c.args.at < c.min-next.result =
     omega (arith, ended, c.requires.0, c.requires.1, parts_past c.requires.2 c.requires.0 c.requires.1) in
     omega (arith, past)
 
 pub overflow_sub-out-2 : goal.overflow_sub-out-2
 overflow_sub-out-2 c =
-    let ended : let a = c.args in c.smaller-next.result ≡ min (parts_end a.body.now a.out.now a.at) 256 =
+    let ended : let a = c.args in c.min-next.result ≡ min (parts_end a.body.now a.out.now a.at) 256 =
     let a = c.args in
     end_found a.body.now a.out.now a.at c.element-code.ensures
     c.element.ensures c.parts_of-parts.ensures c.width_of.ensures c.after-end.ensures
-    c.smaller-next.ensures in
-    let past : c.args.at < c.smaller-next.result =
+    c.min-next.ensures in
+    let past : c.args.at < c.min-next.result =
     omega (arith, ended, c.requires.0, c.requires.1, parts_past c.requires.2 c.requires.0 c.requires.1) in
     omega (arith, past)

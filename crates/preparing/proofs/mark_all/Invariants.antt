@@ -1,8 +1,6 @@
 -- `preparing::mark_all` meets its contract.
 -- The invariant: from where the loop stands on, each place is marked.
-use Prim.Native.Nat.{ℕ, ◌≤◌}
-use mathlib.Core.List.{List}
-use lib.ListN.{length}
+use Rattle.std.proofs.Common.{ℕ, ◌≤◌, length, List}
 use Rattle.preparing.specs.Ends.{Marked}
 use Rattle.preparing.proofs.mark_all.Given as goal
 
@@ -13,6 +11,3 @@ pub record Marking (body out : List ℕ) (at : ℕ) : Type 0 where
 
 abbrev pub invariant-loop-at : goal.invariant-loop-at
 invariant-loop-at l = Marking l.body l.out l.at
-
-abbrev pub decreases-loop-at : goal.decreases-loop-at
-decreases-loop-at l = l.at

@@ -1,11 +1,7 @@
 -- `preparing::prepare_all` meets its contract.
 -- The invariant: the bodies before the e-th are prepared, and from its place on all is 0.
-use Prim.Native.Nat.{◌-◌}
 use Rattle.preparing.proofs.Parts.{Preparing}
 use Rattle.preparing.proofs.prepare_all.Given as goal
 
 abbrev pub invariant-loop-e : goal.invariant-loop-e
 invariant-loop-e l = Preparing l.bodies l.equations l.all l.e
-
-abbrev pub decreases-loop-e : goal.decreases-loop-e
-decreases-loop-e l = 8 - l.e

@@ -1,6 +1,6 @@
 -- `printing::put_instances` meets its contract.
 -- The lines still to be written from the place on, over what is there, are all lines over what was there.
-use Prim.Native.Nat.{ℕ, ◌≤◌, ◌<◌, ◌+◌, ◌/◌}
+use Prim.Native.Nat.{ℕ, ◌≤◌, ◌<◌, ◌+◌}
 use mathlib.Core.Path.{◌≡◌, refl, sym, ◌∙◌, ap}
 use mathlib.Core.List.{List, [], ◌++◌}
 use native.Mathlib.Nat.{add-zero}
@@ -10,7 +10,7 @@ use Rattle.formulas.specs.declared.Equation.{Equation}
 use Rattle.truth.specs.Bits.{bit_of}
 use Rattle.frames.specs.Frames.{line_of}
 use Rattle.frames.specs.PutLine.{Puts}
-use Rattle.printing.specs.Lines.{parameters_of, word_frame, word_lines, Readable}
+use Rattle.printing.specs.Lines.{word_frame, word_lines, Readable}
 use Rattle.frames.proofs.Written.{line_length}
 use Rattle.frames.proofs.Stores.{line_then}
 use Rattle.printing.proofs.Stores.{lines_more}
@@ -43,44 +43,31 @@ module _ {equations : List Equation} {truth words out₀ out : List ℕ} {at j :
       let none : lines_from equations truth words j ≡ [] = rw (e, drop-length) refl in
       (sym (add-zero at) ∙ rw none at b.place, rw none at b.left)
 
-pub put_frame-at-requires : goal.put_frame-at-requires
+pub put-at-requires : goal.put-at-requires
 unfolding Readable
-put_frame-at-requires c =
-    let w : ℕ = get_or c.args.words.now c.loop-j.j 0 in
-    let word_read : (w / 65536 < 8) × (parameters_of c.args.equations w ≤ 4) =
-    c.requires.0 c.loop-j.j c.loop-j-test.true in
-    let few = word_read.1 in
-    let count = c.instance_frame-frame.ensures.1 in
-    (omega arith, omega (arith, c.loop-j.invariant.near, c.loop-j.invariant.long))
+put-at-requires c =
+    let read = c.requires.0 c.loop-j.j c.loop-j-test.true in
+    let count = c.of_word.ensures.1 in
+    (omega (arith, read, count), omega (arith, read, count, c.loop-j.invariant.near, c.loop-j.invariant.long, c.requires.1))
 
 pub loop-j-preserved : goal.loop-j-preserved
 unfolding Readable
 loop-j-preserved c =
     let w : ℕ = get_or c.args.words.now c.loop-j.j 0 in
-    let word_read : (w / 65536 < 8) × (parameters_of c.args.equations w ≤ 4) =
-    c.requires.0 c.loop-j.j c.loop-j-test.true in
-    let frame = c.instance_frame-frame in
-    let put = c.put_frame-at in
-    let few = word_read.1 in
+    let read = c.requires.0 c.loop-j.j c.loop-j-test.true in
+    let frame = c.of_word in
     let short = length-take frame.result.count frame.result.bytes in
     let is = frame.ensures.0 ∙ ap (word_frame c.args.equations w) c.has.ensures in
-    turn c.loop-j.invariant c.loop-j-test.true is (omega (arith, frame.ensures.1)) put.auto.out
-    put.ensures
+    turn c.loop-j.invariant c.loop-j-test.true is (omega (arith, read, frame.ensures.1, short)) c.put-at.auto.out
+    c.put-at.ensures
 
 pub loop-j-init : goal.loop-j-init
 loop-j-init c =
     record { within = omega arith; near = omega arith; long = refl; left = refl; place = omega arith }
 
-pub instance_frame-frame-requires : goal.instance_frame-frame-requires
+pub of_word-requires : goal.of_word-requires
 unfolding Readable
-instance_frame-frame-requires c =
-    let w : ℕ = get_or c.args.words.now c.loop-j.j 0 in
-    let word_read : (w / 65536 < 8) × (parameters_of c.args.equations w ≤ 4) =
-    c.requires.0 c.loop-j.j c.loop-j-test.true in
-    word_read
-
-pub shape_of-out : goal.shape_of-out
-shape_of-out c = c.loop-j.invariant.long
+of_word-requires c = c.requires.0 c.loop-j.j c.loop-j-test.true
 
 pub returns : goal.returns
-returns c = done c.loop-j.invariant (omega arith)
+returns c = done c.loop-j.invariant (omega (arith, c.loop-j-test.false))

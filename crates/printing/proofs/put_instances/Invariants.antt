@@ -1,6 +1,6 @@
 -- `printing::put_instances` meets its contract.
 -- The lines still to be written from the place on, over what is there, are all lines over what was there.
-use Prim.Native.Nat.{ℕ, ◌≤◌, ◌-◌, ◌+◌, ◌*◌}
+use Prim.Native.Nat.{ℕ, ◌≤◌, ◌+◌, ◌*◌}
 use mathlib.Core.Path.{◌≡◌}
 use mathlib.Core.List.{List}
 use lib.ListN.{length, drop}
@@ -22,6 +22,3 @@ pub record Before (equations : List Equation) (truth words out₀ out : List ℕ
 
 abbrev pub invariant-loop-j : goal.invariant-loop-j
 invariant-loop-j l = Before l.equations l.truth l.words l.initial.out l.out l.at l.j
-
-abbrev pub decreases-loop-j : goal.decreases-loop-j
-decreases-loop-j l = length l.words - l.j

@@ -31,13 +31,12 @@ meant {count = count} h {few} f {r} e q =
     let n : few ≡ count = omega (arith, few_equations h.model) in
     solved_words h.model r e (rw (h.words, n) at q)
 
-pub returns-then-r : goal.returns-then-r
-returns-then-r c start h =
-    let r = c.all_rounds-r.result.truth in
+pub returns-in-Some : goal.returns-in-Some
+returns-in-Some c start h =
+    let r = c.in-Some.truth in
     let eight : length r ≡ 8 = search rules in
     let fits : (i : ℕ) → i < 8 → Fits w64 (get_or r i 0) = λ i l. search rules in
-    meant h c.smaller-few.ensures (record { eight = eight; fits = λ i l. (fits i l).fits })
-    (c.all_rounds-r.ensures c.if-r.true h.drawn)
+    meant h c.min.ensures (record { eight = eight; fits = λ i l. (fits i l).fits }) (c.in-Some.ensures h.drawn)
 
 -- a table of at most 512 words is taken whole
 pub returns : goal.returns

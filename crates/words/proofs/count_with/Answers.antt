@@ -1,34 +1,18 @@
 -- `words::count_with` meets its contract.
--- Before turn i the count is that of the first i words.
-use mathlib.Core.Path.{sym, ap, ◌∙◌}
-use lib.ListN.{take, length-take}
-use lib.Seq.{take_all}
-use native.Mathlib.Omega.{arith}
-use Rattle.words.specs.Counts.{count_with, count_none, count_next, count_past, count_at_most}
+-- The words that are kept are those that the definition counts.
+use Rattle.std.proofs.Common.{ℕ, suc, ◌≡◌, ◌+◌, ◌/◌, eqb, List, arith, rules, sym, refl, ◌∙◌}
+use Rattle.std.specs.Prelude.{count_by}
+use Rattle.std.proofs.lemmas.List.Recursion.{is_count_by}
+use Rattle.words.specs.Counts.{count_with}
 use Rattle.words.proofs.count_with.Goals as goal
 
-pub overflow_add-count : goal.overflow_add-count
-overflow_add-count c =
-    let loop = c.loop-i in
-    let a = c.args in
-    let first = take loop.i a.list.now in
-    omega (arith, loop.invariant, count_at_most a.equation first, length-take loop.i a.list.now)
-
-pub loop-i-preserved : goal.loop-i-preserved
-loop-i-preserved c =
-    let loop = c.loop-i in
-    let a = c.args in
-    let next = count_next a.equation loop.i a.list.now c.loop-i-test.true in
-    let past = count_past a.equation loop.i a.list.now c.loop-i-test.true in
-    (omega arith, grind (arith, next, past))
+counted : (e : ℕ) (ws : List ℕ) → count_with e ws ≡ count_by (λ w. eqb (w / 65536) e) ws
+unfolding count_with
+counted e ws =
+    is_count_by (count_with e) (λ w. eqb (w / 65536) e) refl
+    (λ x xs. let one : 1 + count_with e xs ≡ suc (count_with e xs) = omega arith in rw one refl) ws
 
 pub returns : goal.returns
 returns c =
-    let loop = c.loop-i in
-    loop.invariant.1 ∙ ap (count_with _) (take_all loop.i _ c.loop-i-test.false)
-
-pub loop-i-init : goal.loop-i-init
-loop-i-init c = (omega arith, sym (count_none _))
-
-pub bounds-list-i : goal.bounds-list-i
-bounds-list-i c = c.loop-i-test.true
+    let kept : c.count.result ≡ count_by (λ w. eqb (w / 65536) c.args.equation) c.args.list.now = search rules in
+    kept ∙ sym (counted c.args.equation c.args.list.now)

@@ -7,4 +7,4 @@ pub returns-then-reply-eq0 : goal.returns-then-reply-eq0
 returns-then-reply-eq0 c = shows_text c.if-reply-eq0.true
 
 pub returns : goal.returns
-returns c = shows_refusal c.if-reply-eq0.false c.put_line.ensures
+returns c = shows_refusal c.if-reply-eq0.false (rw c.to_be_bytes.ensures at c.put_line.ensures)

@@ -5,4 +5,4 @@ use borrow.Author.Rules.{rules}
 use Rattle.digits.proofs.worths.worth.Goals as goal
 
 pub returns : goal.returns
-returns c = follows c.args.b (search rules)
+returns c = rw c.from.ensures (follows c.args.b (search rules))

@@ -17,7 +17,7 @@ returns-then-at-ge256 c =
     let next = a.at + 1 in
     let first = term_past p next (omega (arith, c.if-at-ge256.true)) in
     let second = term_past p (end_at p next) (omega (arith, c.if-at-ge256.true, end_on p next)) in
-    rw (first, second, c.tested.ensures) refl
+    rw (c.alone.ensures, first, second, c.tested.ensures) refl
 
 pub returns : goal.returns
 returns c =

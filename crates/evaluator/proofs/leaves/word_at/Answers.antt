@@ -1,8 +1,8 @@
 -- `evaluator::leaves::word_at` meets its contract.
 -- Behind the places of a body stands no argument, and equation 0.
-use Prim.Native.Nat.{ℕ, ◌+◌, min}
+use Prim.Native.Nat.{◌+◌}
 use native.Mathlib.Omega.{arith}
-use mathlib.Core.Path.{refl, ap, ◌∙◌}
+use mathlib.Core.Path.{refl}
 use Rattle.meaning.specs.Words.{word}
 use Rattle.looked.specs.Looked.{looked_terms}
 use Rattle.prepared.specs.Prepared.{terms_by}
@@ -15,22 +15,19 @@ returns-then-at-ge256 c =
     let a = c.args in
     let p = a.body.now in
     rw (
+      c.alone.ensures,
       byte_past p (a.at + 1) (omega (arith, c.if-at-ge256.true)),
       byte_past p (a.at + 2) (omega (arith, c.if-at-ge256.true)),
     ) refl
 
 -- at most four arguments
-pub arguments-got-requires : goal.arguments-got-requires
-arguments-got-requires c = omega (arith, c.smaller-n.ensures)
-
 pub returns : goal.returns
 returns c =
-    let number = c.smaller-n.ensures ∙ ap (λ (n : ℕ). min n 4) (c.wide.ensures.0
-    ∙ c.byte_at.ensures) in
     rw (
       c.word_of.ensures,
       c.byte_at-2.ensures,
-      c.arguments-got.ensures.values,
-      c.arguments-got.ensures.looked,
-      number,
+      c.arguments-got.ensures.0,
+      c.arguments-got.ensures.1,
+      c.min-n.ensures,
+      c.byte_at.ensures,
     ) refl

@@ -1,10 +1,6 @@
--- A row gets an instance, where it is asked for.
--- One bit is set, or none.
-use Rattle.finding.proofs.DrawingLaws.{noted, not_noted}
+-- A row gets an instance: one bit is set.
+use Rattle.finding.proofs.DrawingLaws.{noted}
 use Rattle.finding.proofs.drawing.note.Goals as goal
 
-pub returns-then-here : goal.returns-then-here
-returns-then-here c = rw c.if-here.true (noted c.requires c.mark.ensures)
-
-pub returns-else-here : goal.returns-else-here
-returns-else-here c = rw c.if-here.false not_noted
+pub returns : goal.returns
+returns c = noted c.requires c.mark.ensures

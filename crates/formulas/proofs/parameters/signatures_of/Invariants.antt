@@ -1,11 +1,7 @@
 -- `formulas::signatures_of` meets its contract.
 -- The places below j are written; the last place was written first.
-use Prim.Native.Nat.{◌-◌}
 use Rattle.formulas.proofs.Signatures.{Signing}
 use Rattle.formulas.proofs.parameters.signatures_of.Given as goal
 
 abbrev pub invariant-loop-j : goal.invariant-loop-j
 invariant-loop-j l = Signing l.equations l.count l.table l.j
-
-abbrev pub decreases-loop-j : goal.decreases-loop-j
-decreases-loop-j l = 40 - l.j

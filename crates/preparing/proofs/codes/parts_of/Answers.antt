@@ -14,7 +14,7 @@ known n h = ap (λ (x : ℕ). parts_of x n) (sym h)
 pub returns-in-26 : goal.returns-in-26
 unfolding parts_of
 returns-in-26 c =
-    c.smaller.ensures ∙ ap (λ (x : ℕ). min x 4) c.wide.ensures.0 ∙
+    c.min.ensures ∙ ap (λ (x : ℕ). min x 4) c.from.ensures ∙
     known c.args.n c.in-26.is
 
 pub returns-in_default : goal.returns-in_default

@@ -2,89 +2,79 @@
 -- Each turn takes one code: a fixed point is kept with its end, a variable or an action is tested.
 use Prim.Native.Nat.{ℕ}
 use native.Mathlib.Omega.{arith}
-use mathlib.Core.Path.{◌≡◌, sym, ap, ◌∙◌}
-use mathlib.Core.Bool.{◌&&◌}
+use mathlib.Core.Path.{◌≡◌, refl, sym, ap, ◌∙◌}
 use mathlib.Core.List.{List}
-use lib.ListN.{length, get_or}
-use Rattle.processes.specs.Ends.{action_stands, variable_stands}
-use Rattle.processes.proofs.OwnBytes.{opens}
-use Rattle.processes.proofs.Rows.{width, width_most}
+use Rattle.scans.specs.Formulas.{is_fixed}
+use Rattle.processes.specs.Ends.{variable_stands}
+use Rattle.processes.proofs.Rows.{width_most, no_code, wide, coded}
 use Rattle.processes.proofs.Turning.{Opened, opened, not_opened}
-use Rattle.processes.proofs.Walking.{opened_size, walking_start, walking_done, walking_none}
-use Rattle.processes.proofs.Walking.{walking_stops, walking_more}
+use Rattle.processes.proofs.Walking.{opened_count, walking_start, walking_done, walking_none, walking_ended}
+use Rattle.processes.proofs.Walking.{walking_stops, walking_more, variable_taken}
 use Rattle.processes.proofs.scopes.is_well_formed.Goals as goal
-use Rattle.processes.proofs.scopes.is_well_formed.Goals.{then-and, else-and}
+use Rattle.processes.proofs.scopes.is_well_formed.Goals.{then-is_fixed+in-Some-modal_end, else-is_fixed}
+use Rattle.processes.proofs.scopes.is_well_formed.Goals.{then-not-fits-via-then-not-fits}
+use Rattle.processes.proofs.scopes.is_well_formed.Goals.{then-not-fits-via-else-not-fits+then-not-action_fits}
 
-pub returns-then-width-eq0 : goal.returns-then-width-eq0
-returns-then-width-eq0 c =
-    walking_none c.loop-at.invariant c.loop-at-test.true (sym c.width_at-width.ensures ∙ c.if-width-eq0.true)
+pub returns-in_default : goal.returns-in_default
+returns-in_default c = walking_none c.loop-at.invariant c.loop-at-test.true
+    (no_code c.args.frame.now c.loop-at.at c.in_default.ensures)
 
-pub returns-then-not-and : goal.returns-then-not-and
-returns-then-not-and c =
+pub returns-in_default-modal_end : goal.returns-in_default-modal_end
+returns-in_default-modal_end c =
+    walking_ended c.loop-at.invariant c.loop-at-test.true
+    (ap is_fixed (sym c.element.ensures) ∙ sym c.is_fixed.ensures ∙ c.if-is_fixed.true) c.in_default-modal_end.ensures
+
+pub returns-then-not-fits : goal.returns-then-not-fits
+returns-then-not-fits c =
     let frame : List ℕ = c.args.frame.now in
     let at : ℕ = c.loop-at.at in
-    let opening : c.and.result ≡ opens (get_or frame at 0) =
-    c.and.ensures ∙ ap opens c.element-code.ensures in
-    let kept : Opened frame at c.loop-at.ends c.loop-at.count c.if-and.ends c.if-and.count =
-    elim c.if-and.branch [
-      | then-and w ↦ opened w.modal_end.result (sym opening ∙ w.if-and.true) w.modal_end.ensures w.ends-is w.count-is
-      | else-and w ↦ not_opened (sym opening ∙ w.if-and.false) w.ends-is w.count-is
+    let j = c.if-is_fixed in
+    let fixed : is_fixed _ ≡ c.is_fixed.result = ap is_fixed (sym c.element.ensures) ∙ sym c.is_fixed.ensures in
+    let kept : Opened frame at c.loop-at.ends c.loop-at.count j.ends j.count =
+    elim j.branch [
+      | then-is_fixed+in-Some-modal_end w ↦
+          opened w.in-Some-modal_end.end (fixed ∙ w.if-is_fixed.true) w.in-Some-modal_end.ensures w.ends-is w.count-is
+      | else-is_fixed w ↦ not_opened (fixed ∙ w.if-is_fixed.false) w.ends-is w.count-is
     ] in
-    let tests : c.and-in-loop-at.result ≡ variable_stands frame at c.if-and.ends c.if-and.count && action_stands frame at =
-    rw (← c.variable_fits-fits.ensures, ← c.action_fits.ensures) c.and-in-loop-at.ensures in
-    walking_stops c.loop-at.invariant (omega arith) c.loop-at-test.true kept tests c.if-not-and.true
+    let variable : variable_stands frame at j.ends j.count ≡ c.variable_fits-fits.result =
+    sym (c.variable_fits-fits.ensures ∙ variable_taken frame at j.ends j.count (omega (arith, opened_count kept))) in
+    walking_stops c.loop-at.invariant (omega arith) c.loop-at-test.true kept
+    (elim c.then-not-fits.branch [
+      | then-not-fits-via-then-not-fits w ↦ rw (variable ∙ w.if-not-fits.true) refl
+      | then-not-fits-via-else-not-fits+then-not-action_fits w ↦
+          rw (variable ∙ w.if-not-fits.false, sym w.action_fits.ensures ∙ w.if-not-action_fits.true) refl
+    ])
 
 pub loop-at-preserved : goal.loop-at-preserved
 loop-at-preserved c =
     let frame : List ℕ = c.args.frame.now in
     let at : ℕ = c.loop-at.at in
-    let coded : width frame at ≡ 0 → ⊥ = λ e. c.if-width-eq0.false (c.width_at-width.ensures ∙ e) in
-    let opening : c.and.result ≡ opens (get_or frame at 0) =
-    c.and.ensures ∙ ap opens c.element-code.ensures in
-    let kept : Opened frame at c.loop-at.ends c.loop-at.count c.if-and.ends c.if-and.count =
-    elim c.if-and.branch [
-      | then-and w ↦ opened w.modal_end.result (sym opening ∙ w.if-and.true) w.modal_end.ensures w.ends-is w.count-is
-      | else-and w ↦ not_opened (sym opening ∙ w.if-and.false) w.ends-is w.count-is
+    let j = c.if-is_fixed in
+    let fixed : is_fixed _ ≡ c.is_fixed.result = ap is_fixed (sym c.element.ensures) ∙ sym c.is_fixed.ensures in
+    let kept : Opened frame at c.loop-at.ends c.loop-at.count j.ends j.count =
+    elim j.branch [
+      | then-is_fixed+in-Some-modal_end w ↦
+          opened w.in-Some-modal_end.end (fixed ∙ w.if-is_fixed.true) w.in-Some-modal_end.ensures w.ends-is w.count-is
+      | else-is_fixed w ↦ not_opened (fixed ∙ w.if-is_fixed.false) w.ends-is w.count-is
     ] in
-    let tests : c.and-in-loop-at.result ≡ variable_stands frame at c.if-and.ends c.if-and.count && action_stands frame at =
-    rw (← c.variable_fits-fits.ensures, ← c.action_fits.ensures) c.and-in-loop-at.ensures in
-    rw c.width_at-width.ensures
-    (walking_more c.loop-at.invariant (omega arith) c.loop-at-test.true kept tests c.if-not-and.false coded)
+    let variable : variable_stands frame at j.ends j.count ≡ c.variable_fits-fits.result =
+    sym (c.variable_fits-fits.ensures ∙ variable_taken frame at j.ends j.count (omega (arith, opened_count kept))) in
+    rw (wide frame at c.in-Some.ensures)
+    (walking_more c.loop-at.invariant (omega arith) c.loop-at-test.true kept
+    (variable ∙ c.if-not-fits.false) (sym c.action_fits.ensures ∙ c.if-not-action_fits.false) (coded frame at c.in-Some.ensures))
 
 pub loop-at-init : goal.loop-at-init
 loop-at-init c = walking_start _
 
-pub width_at-width-requires : goal.width_at-width-requires
-width_at-width-requires c = omega (arith, c.loop-at.invariant.near)
-
-pub modal_end-requires : goal.modal_end-requires
-modal_end-requires c = (omega arith, omega arith)
-
-pub bounds-ends-count : goal.bounds-ends-count
-bounds-ends-count c = omega (arith, c.loop-at.invariant.few)
-
-pub overflow_add-count : goal.overflow_add-count
-overflow_add-count c = omega (arith, c.loop-at.invariant.few)
-
-pub variable_fits-fits-requires : goal.variable_fits-fits-requires
-variable_fits-fits-requires c =
-    let frame : List ℕ = c.args.frame.now in
-    let at : ℕ = c.loop-at.at in
-    let opening : c.and.result ≡ opens (get_or frame at 0) =
-    c.and.ensures ∙ ap opens c.element-code.ensures in
-    let kept : Opened frame at c.loop-at.ends c.loop-at.count c.if-and.ends c.if-and.count =
-    elim c.if-and.branch [
-      | then-and w ↦ opened w.modal_end.result (sym opening ∙ w.if-and.true) w.modal_end.ensures w.ends-is w.count-is
-      | else-and w ↦ not_opened (sym opening ∙ w.if-and.false) w.ends-is w.count-is
-    ] in
-    let kept_size : length c.if-and.ends ≡ 256 = opened_size kept ∙ c.loop-at.invariant.size in
-    (omega arith, kept_size)
-
 pub overflow_add-at-in-loop-at : goal.overflow_add-at-in-loop-at
 overflow_add-at-in-loop-at c =
+    omega (arith, wide c.args.frame.now c.loop-at.at c.in-Some.ensures, width_most c.args.frame.now c.loop-at.at)
+
+pub loop-at-smaller : goal.loop-at-smaller
+loop-at-smaller c =
     let frame : List ℕ = c.args.frame.now in
-    let at : ℕ = c.loop-at.at in
-    omega (arith, width_most frame at)
+    let some = coded frame c.loop-at.at c.in-Some.ensures in
+    omega (arith, wide frame c.loop-at.at c.in-Some.ensures, some)
 
 pub returns : goal.returns
 returns c = walking_done c.loop-at.invariant c.loop-at-test.false

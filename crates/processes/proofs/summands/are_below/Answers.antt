@@ -1,27 +1,26 @@
 -- `processes::are_below` meets its contract.
--- What is left from i on decides.
-use mathlib.Core.Path.{sym, ◌∙◌}
-use mathlib.Core.Bool.{true, false}
-use borrow.Author.Tests.{lt-ltb, le-ltb}
-use Rattle.processes.proofs.CountedBytes.{below_all, below_next, below_none}
-use Rattle.processes.proofs.CountedBytes.{walk_start, walk_more, walk_stop, walk_end}
+-- What is tested of all places is tested of all bytes there.
+use Prim.Native.Nat.{ℕ, ◌+◌}
+use native.Mathlib.Omega.{arith}
+use mathlib.Core.Path.{◌≡◌, refl, ap₂, ◌∙◌}
+use lib.ListN.{get_or}
+use lib.Dec.{ltb}
+use borrow.Author.Rules.{rules}
+use Rattle.std.proofs.Common.{tests}
+use Rattle.std.proofs.lemmas.Iterator.{YieldsList-from_range}
+use Rattle.std.proofs.lemmas.Iterator.Search.{all_from_yields_List}
+use Rattle.meaning.specs.Ranges.{within}
+use Rattle.formulas.specs.Contract.{part}
+use Rattle.inputs.specs.Inputs.{count_of}
+use Rattle.processes.proofs.CountedBytes.{below_told}
 use Rattle.processes.proofs.summands.are_below.Goals as goal
 
-pub loop-i-init : goal.loop-i-init
-loop-i-init c =
-    let count = c.wide-count.ensures in
-    walk_start count.1 (below_all _ _ (count.0 ∙ c.element.ensures))
-
-pub loop-i-preserved : goal.loop-i-preserved
-loop-i-preserved c =
-    walk_more c.loop-i.invariant c.loop-i-test.true
-    (below_next _ _ _ c.loop-i-test.true true
-    (sym (lt-ltb _ _ (rw (c.element-in-loop-i.ensures, c.element-range.ensures) at c.if-range-element.false))))
-
-pub returns-then-range-element : goal.returns-then-range-element
-returns-then-range-element c =
-    walk_stop c.loop-i.invariant (below_next _ _ _ c.loop-i-test.true false
-    (sym (le-ltb _ _ (rw (c.element-in-loop-i.ensures, c.element-range.ensures) at c.if-range-element.true))))
-
 pub returns : goal.returns
-returns c = walk_end c.loop-i.invariant (below_none _ _ _ c.loop-i-test.false)
+returns c =
+    let f = c.args.frame.now in
+    let count = c.from-count.result in
+    let number : count ≡ count_of f = c.from-count.ensures ∙ c.element.ensures in
+    let behind : 2 + count + 0 ≡ 2 + count_of f = omega (arith, number) in
+    all_from_yields_List (λ i. ltb (get_or f (2 + count + i) 0) (get_or f (2 + i) 0)) _ _ _ c.all.ensures.ran
+    (YieldsList-from_range 0 count count refl (omega arith)) (λ x b q k. search (rules, tests))
+    ∙ below_told f count 0 count ∙ ap₂ (λ (j n : ℕ). within (part f j n) (part f 2 n)) behind number

@@ -1,27 +1,24 @@
 -- `processes::are_ranges` meets its contract.
--- What is left from i on decides.
-use mathlib.Core.Path.{sym, ap, ◌∙◌}
-use mathlib.Core.Bool.{true, false}
-use Rattle.meaning.specs.Ranges.{is_range}
-use Rattle.processes.proofs.CountedBytes.{ranges_all, ranges_next, ranges_none}
-use Rattle.processes.proofs.CountedBytes.{walk_start, walk_more, walk_stop, walk_end}
+-- What is tested of all places is tested of all bytes there.
+use Prim.Native.Nat.{ℕ, ◌+◌}
+use native.Mathlib.Omega.{arith}
+use mathlib.Core.Path.{◌≡◌, refl, ap, ◌∙◌}
+use lib.ListN.{get_or}
+use borrow.Author.Rules.{rules}
+use Rattle.std.proofs.Common.{tests}
+use Rattle.std.proofs.lemmas.Iterator.{YieldsList-from_range}
+use Rattle.std.proofs.lemmas.Iterator.Search.{all_from_yields_List}
+use Rattle.meaning.specs.Ranges.{is_range, all_ranges}
+use Rattle.formulas.specs.Contract.{part}
+use Rattle.inputs.specs.Inputs.{count_of}
+use Rattle.processes.proofs.CountedBytes.{ranges_told}
 use Rattle.processes.proofs.summands.are_ranges.Goals as goal
 
-pub loop-i-init : goal.loop-i-init
-loop-i-init c =
-    let count = c.wide-count.ensures in
-    walk_start count.1 (ranges_all _ _ (count.0 ∙ c.element.ensures))
-
-pub loop-i-preserved : goal.loop-i-preserved
-loop-i-preserved c =
-    walk_more c.loop-i.invariant c.loop-i-test.true
-    (ranges_next _ _ _ c.loop-i-test.true true
-    (sym (c.if-not-is_range.false) ∙ c.is_range.ensures ∙ ap is_range c.element-in-loop-i.ensures))
-
-pub returns-then-not-is_range : goal.returns-then-not-is_range
-returns-then-not-is_range c =
-    walk_stop c.loop-i.invariant (ranges_next _ _ _ c.loop-i-test.true false
-    (sym (c.if-not-is_range.true) ∙ c.is_range.ensures ∙ ap is_range c.element-in-loop-i.ensures))
-
 pub returns : goal.returns
-returns c = walk_end c.loop-i.invariant (ranges_none _ _ _ c.loop-i-test.false)
+returns c =
+    let f = c.args.frame.now in
+    let count = c.from-count.result in
+    let number : count ≡ count_of f = c.from-count.ensures ∙ c.element.ensures in
+    all_from_yields_List (λ i. is_range (get_or f (2 + i) 0)) _ _ _ c.all.ensures.ran
+    (YieldsList-from_range 0 count count refl (omega arith)) (λ x b q k. search (rules, tests))
+    ∙ ranges_told f 0 count ∙ ap (λ (n : ℕ). all_ranges (part f 2 n)) number

@@ -1,11 +1,7 @@
 -- `processes::with_ranges` meets its contract.
 -- What was put and what is left make the whole; four behind four find place.
-use Prim.Native.Nat.{◌-◌}
 use Rattle.processes.proofs.CountedBytes.{Putting}
 use Rattle.processes.proofs.summands.with_ranges.Given as goal
 
 abbrev pub invariant-loop-i : goal.invariant-loop-i
 invariant-loop-i l = Putting l.frame l.count l.initial.all l.all l.i
-
-abbrev pub decreases-loop-i : goal.decreases-loop-i
-decreases-loop-i l = l.count - l.i

@@ -1,48 +1,35 @@
 -- `reading::keep_body` meets its contract.
--- What is still to be kept, over what is there, is the whole body over what was there.
-use Prim.Native.Nat.{ℕ, ◌+◌, ◌<◌}
+-- The body is put where that of the equation stands.
+use Prim.Native.Nat.{ℕ, ◌+◌, ◌-◌, ◌*◌, ◌≤◌, ◌<◌, min}
 use native.Mathlib.Omega.{arith}
-use native.Mathlib.Numerals.{add-one}
+use native.Mathlib.Decide.{dec_le}
 use mathlib.Core.Path.{◌≡◌, refl, sym, ◌∙◌}
-use mathlib.Core.List.{List, []}
-use lib.ListN.{length, drop, get_or, set, length-set, drop_of_length-le}
-use lib.Seq.{sets, drop-cons}
-use borrow.Author.Tests.{ne_eqb}
+use mathlib.Core.List.{List, append_assoc}
+use lib.ListN.{length, get_or, take, drop, length-drop, drop_of_length-le}
+use lib.Seq.{sets, sets-eq, drop-drop, take_all}
+use borrow.Rule.Slice.PartMut.{put_mid}
+use Rattle.std.proofs.Common.{rules}
 use Rattle.reading.proofs.drafting.keep_body.Goals as goal
 
-step : (b f : List ℕ) (from to : ℕ) → from < length f
-    → sets (set b to (get_or f from 0)) (to + 1) (drop (from + 1) f) ≡ sets b to (drop from f)
-step b f from to h = rw (drop-cons f from 0 h, add-one from, add-one to) refl
+-- what follows a head that ends within the frame, or nothing
+what_follows : (f : List ℕ) (head from : ℕ) → from ≡ min head (length f) → take (length f - from) (drop from f) ≡ drop head f
+what_follows f head from e = take_all _ (drop from f) (omega (arith, length-drop from f)) ∙ elim (dec_le head (length f)) [
+  | yes h ↦ let same : from ≡ head = omega (arith, e) in rw same refl
+  | no h ↦ drop_of_length-le f {i = from} (omega (arith, e)) ∙ sym (drop_of_length-le f {i = head} (omega arith))
+]
 
-pub loop-from-init : goal.loop-from-init
-loop-from-init c =
-    let one_of_eight : c.args.j < 8 = c.requires.1 (sym c.element.ensures ∙ c.if-element-ne1.false) in
-    record { few = one_of_eight; past = omega arith; there = omega arith; long = c.requires.2; left = refl }
-
-pub loop-from-preserved : goal.loop-from-preserved
-loop-from-preserved c =
-    let loop = c.loop-from in
-    record {
-      few = loop.invariant.few;
-      past = omega arith;
-      there = omega arith;
-      long = length-set loop.bodies loop.to _ ∙ loop.invariant.long;
-      left = step loop.bodies _ loop.from loop.to c.loop-from-test.true ∙ loop.invariant.left;
-    }
+put_in : (l w : List ℕ) (q n : ℕ) → n ≡ length w → q + n ≤ length l → put_mid q n l w ≡ sets l q w
+put_in l w q n e h =
+    rw (e, drop-drop (length w) q l) (sym (sets-eq w l q (omega (arith, e)) ∙ append_assoc (take q l) w _))
 
 pub returns : goal.returns
 returns c =
-    let all : drop c.loop-from.from c.args.frame.now ≡ [] = drop_of_length-le _ c.loop-from-test.false in
-    let kept = rw (all, c.wide-head.ensures.0, c.element-2.ensures) at c.loop-from.invariant.left in
-    rw (← c.element.ensures, c.if-element-ne1.false) kept
-
-pub returns-then-element-ne1 : goal.returns-then-element-ne1
-returns-then-element-ne1 c = rw (← c.element.ensures, ne_eqb _ 1 c.if-element-ne1.true)
-
-pub overflow_mul-to : goal.overflow_mul-to
-overflow_mul-to c =
+    let f = c.args.frame.now in
     let one_of_eight : c.args.j < 8 = c.requires.1 (sym c.element.ensures ∙ c.if-element-ne1.false) in
-    omega (arith, one_of_eight)
-
-pub shape_of-bodies : goal.shape_of-bodies
-shape_of-bodies c = c.loop-from.invariant.long ∙ sym c.requires.2
+    let head : ℕ = 3 + get_or f 2 0 in
+    let body = what_follows f head c.min.result (rw (c.from-head.ensures, c.element-2.ensures) at c.min.ensures) in
+    let kept = rw body at c.copy_from_slice.ensures.after in
+    let long : length c.args.bodies.now ≡ 2048 = search rules in
+    let short : length (drop head f) ≤ 256 = omega (arith, length-drop head f, c.requires.0) in
+    rw (← c.element.ensures, c.if-element-ne1.false, body, kept)
+    (put_in c.args.bodies.now (drop head f) (256 * c.args.j) _ (omega arith) (omega (arith, one_of_eight, short, long)))

@@ -1,20 +1,23 @@
 -- `reading::start_fits` meets its contract.
--- As many arguments as parameters, and four tests on those that are there.
+-- As many arguments as parameters, each below its range.
+use mathlib.Core.Path.{refl, ap, ◌∙◌}
 use Prim.Native.Nat.{ℕ, min}
-use mathlib.Core.Path.{◌≡◌, ap, ◌∙◌}
-use lib.ListN.{length}
-use Rattle.reading.proofs.Starts.{arguments_judged}
-use borrow.Author.Rules.{rules}
+use native.Mathlib.Omega.{arith}
+use Rattle.std.proofs.Common.{rules, tests}
+use Rattle.std.proofs.lemmas.Iterator.{YieldsList-from_range}
+use Rattle.std.proofs.lemmas.Iterator.Search.{all_from_yields_List}
+use Rattle.reading.proofs.Starts.{wrong_number, below_at, all_below}
 use Rattle.reading.proofs.ending.start_fits.Goals as goal
+
+pub returns-then-s-k : goal.returns-then-s-k
+returns-then-s-k c =
+    let least = c.min-k.ensures ∙ ap (λ (x : ℕ). min x 4) c.from.ensures in
+    wrong_number _ _ _ _ _ (search rules) (search rules) least c.if-s-k.true
 
 pub returns : goal.returns
 returns c =
-    let four : let a = c.args in (length a.s.arguments ≡ 4) × (length a.e.ranges ≡ 4) =
-    search rules in
-    let a = c.args in
-    let sizes = four in
-    let least = c.smaller-k.ensures ∙ ap (λ (x : ℕ). min x 4) c.wide.ensures.0 in
-    arguments_judged a.s.count a.e.k c.smaller-k.result a.s.arguments a.e.ranges sizes.0 sizes.1 least
-    c.implies-b0.ensures c.implies-b1.ensures c.implies-b2.ensures
-    c.implies-b3.ensures c.and.ensures c.and-2.ensures
-    c.and-all.ensures c.and-3.ensures
+    let k = c.min-k.result in
+    let least = c.min-k.ensures ∙ ap (λ (x : ℕ). min x 4) c.from.ensures in
+    all_from_yields_List (below_at c.args.s.arguments c.args.e.ranges) _ _ _ c.all.ensures.ran
+    (YieldsList-from_range 0 k k refl (omega arith)) (λ x b q l. search (rules, tests))
+    ∙ all_below _ _ _ _ _ (search rules) (search rules) least c.if-s-k.false

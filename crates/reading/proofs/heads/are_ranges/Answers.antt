@@ -1,20 +1,16 @@
 -- `reading::are_ranges` meets its contract.
--- Four tests on four ranges.
+-- Each is a range, or one is none.
+use Rattle.std.proofs.Common.{rules}
+use Rattle.std.proofs.lemmas.Iterator.{cases_from_all, YieldsList-from_slice}
+use borrow.Author.Tests.{tests}
 use mathlib.Core.Path.{◌≡◌}
-use lib.ListN.{length}
-use Rattle.reading.proofs.Starts.{four_ranges}
-use borrow.Author.Rules.{rules}
+use mathlib.Core.Bool.{true, false}
+use Rattle.meaning.specs.Ranges.{is_range}
+use Rattle.reading.proofs.Starts.{ranges_said}
 use Rattle.reading.proofs.heads.are_ranges.Goals as goal
 
 pub returns : goal.returns
 returns c =
-    let n : length c.args.r ≡ 4 = search rules in
-    rw (
-      c.and-3.ensures,
-      c.and-2.ensures,
-      c.and.ensures,
-      c.is_range-d.ensures,
-      c.is_range-c.ensures,
-      c.is_range-b.ensures,
-      c.is_range-a.ensures,
-    ) (four_ranges c.args.r n)
+    ranges_said c.all.result c.args.r
+    (cases_from_all _ _ _ (λ x. is_range x ≡ true) (λ x. is_range x ≡ false) c.all.ensures.ran
+    (YieldsList-from_slice c.args.r cc) (λ x q k. search (rules, tests)) (λ x q k. search (rules, tests)))

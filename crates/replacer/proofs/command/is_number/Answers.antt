@@ -1,39 +1,20 @@
 -- `replacer::command::is_number` meets its contract.
--- What is left to look at decides.
+-- Every character of the word is asked whether it is a decimal digit.
 use native.Mathlib.Omega.{arith}
-use mathlib.Core.Path.{refl, ◌∙◌}
-use borrow.Author.Tests.{le-leb}
-use Rattle.replacer.proofs.CommandWords.{decimal_none, decimal_low, decimal_high, decimal_yes}
+use mathlib.Core.Path.{sym, ◌∙◌}
+use lib.ListN.{length}
+use borrow.Author.Tests.{eqb-false, le-leb, tests}
+use Rattle.std.proofs.Common.{rules}
+use Rattle.std.proofs.lemmas.Iterator.{YieldsList-from_slice}
+use Rattle.std.proofs.lemmas.Iterator.Search.{all_from_yields_List}
+use Rattle.replacer.specs.Printed.{is_decimal}
+use Rattle.replacer.proofs.CommandWords.{all_told}
 use Rattle.replacer.proofs.command.is_number.Goals as goal
 
-pub returns-then-word-i-lt48 : goal.returns-then-word-i-lt48
-returns-then-word-i-lt48 c =
-    let loop = c.loop-i in
-    let all = loop.invariant.2 ∙ decimal_low _ _ c.loop-i-test.true c.if-word-i-lt48.true in
-    rw (le-leb 1 _ loop.invariant.0, all) refl
-
-pub returns-then-word-i-gt57 : goal.returns-then-word-i-gt57
-returns-then-word-i-gt57 c =
-    let loop = c.loop-i in
-    let all = loop.invariant.2 ∙ decimal_high _ _ c.loop-i-test.true c.if-word-i-lt48.false c.if-word-i-gt57.true in
-    rw (le-leb 1 _ loop.invariant.0, all) refl
-
-pub loop-i-preserved : goal.loop-i-preserved
-loop-i-preserved c =
-    let loop = c.loop-i in (
-      loop.invariant.0,
-      omega arith,
-      loop.invariant.2
-          ∙ decimal_yes _ _ c.loop-i-test.true c.if-word-i-lt48.false c.if-word-i-gt57.false,
-    )
-
-pub returns : goal.returns
-returns c =
-    let loop = c.loop-i in
-    rw (le-leb 1 _ loop.invariant.0, loop.invariant.2 ∙ decimal_none _ _ c.loop-i-test.false) refl
-
-pub returns-then-word-eq0 : goal.returns-then-word-eq0
-returns-then-word-eq0 c = rw c.if-word-eq0.true refl
-
-pub loop-i-init : goal.loop-i-init
-loop-i-init c = (omega arith, omega arith, refl)
+pub returns-then-not-is_empty : goal.returns-then-not-is_empty
+returns-then-not-is_empty c =
+    let w = c.args.word.now in
+    let all = all_from_yields_List is_decimal _ _ c.all.result c.all.ensures.ran (YieldsList-from_slice w cc)
+    (λ x b q k. search (rules, tests)) in
+    let some = eqb-false (length w) 0 (sym c.is_empty.ensures ∙ c.if-not-is_empty.true) in
+    rw (le-leb 1 (length w) (omega (arith, some))) (all ∙ all_told w)

@@ -18,23 +18,20 @@ loop-at-preserved c =
     elim c.if-is_fixed.branch [
       | then-is_fixed+else-left-eq0 w ↦
           rw w.left-is (seeking_less inv near c.width_at-at.ensures (sym told ∙ w.if-is_fixed.true)
-          (omega (arith, w.if-left-eq0.false)))
+          (omega arith))
       | else-is_fixed w ↦
           rw w.left-is (seeking_passed inv near c.width_at-at.ensures (sym told ∙ w.if-is_fixed.false))
     ]
 
-pub returns-then-left-eq0 : goal.returns-then-left-eq0
-returns-then-left-eq0 c =
+pub returns-then-left-eq0-clause-found : goal.returns-then-left-eq0-clause-found
+returns-then-left-eq0-clause-found c =
     let told : c.is_fixed.result ≡ is_fixed (code_at c.args.sheet.now c.loop-at.at) =
     c.is_fixed.ensures ∙ ap is_fixed c.element.ensures in
     seeking_found c.loop-at.invariant c.loop-at-test.true
-    (sym told ∙ c.if-is_fixed.true) c.if-left-eq0.true
+    (sym told ∙ c.if-is_fixed.true) (omega arith)
 
 pub loop-at-init : goal.loop-at-init
 loop-at-init c = seeking_start _ _
-
-pub overflow_sub-left : goal.overflow_sub-left
-overflow_sub-left c = omega (arith, c.if-left-eq0.false)
 
 pub overflow_add-at-in-loop-at : goal.overflow_add-at-in-loop-at
 overflow_add-at-in-loop-at c =
@@ -48,5 +45,5 @@ loop-at-smaller c =
     rw c.width_at-at.ensures (width_small _ _) in
     omega (arith, width.0)
 
-pub returns : goal.returns
-returns c = seeking_end c.loop-at.invariant c.loop-at-test.false
+pub returns-clause-found : goal.returns-clause-found
+returns-clause-found c = seeking_end c.loop-at.invariant c.loop-at-test.false

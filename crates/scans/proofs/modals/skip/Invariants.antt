@@ -4,8 +4,8 @@ use Prim.Native.Nat.{◌-◌}
 use Rattle.scans.proofs.Skipping.{Skipping}
 use Rattle.scans.proofs.modals.skip.Given as goal
 
-abbrev pub invariant-loop-code : goal.invariant-loop-code
-invariant-loop-code l = Skipping l.sheet l.at l.next l.count l.pending
+abbrev pub invariant-loop-pending : goal.invariant-loop-pending
+invariant-loop-pending l = Skipping l.sheet l.at l.next l.count l.pending
 
-abbrev pub decreases-loop-code : goal.decreases-loop-code
-decreases-loop-code l = 258 - l.next
+abbrev pub decreases-loop-pending : goal.decreases-loop-pending
+decreases-loop-pending l = 258 - l.next

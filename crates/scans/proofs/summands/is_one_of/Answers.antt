@@ -14,7 +14,7 @@ unfolding by_code
 returns-in_default c =
     let by : ℕ → Bool = λ code. by_code c.args.action code c.element-a.result in
     let decided : (r : Bool) → r ≡ by c.element-code.result → IsOneOf c.args.sheet.now c.args.at c.args.action r =
-    λ r q. one_of_told q c.wide-from.ensures.0 c.element-code.ensures c.element-a.ensures in
+    λ r q. one_of_told q c.from-from.ensures c.element-code.ensures c.element-a.ensures in
     let code = c.element-code.result in
     decided _ (simp (ne_eqb code 0x35 (λ h. omega arith), ne_eqb code 0x36 (λ h. omega arith)))
 
@@ -23,7 +23,7 @@ unfolding by_code
 returns-in-53 c =
     let by : ℕ → Bool = λ code. by_code c.args.action code c.element-a.result in
     let decided : (r : Bool) → r ≡ by c.element-code.result → IsOneOf c.args.sheet.now c.args.at c.args.action r =
-    λ r q. one_of_told q c.wide-from.ensures.0 c.element-code.ensures c.element-a.ensures in
+    λ r q. one_of_told q c.from-from.ensures c.element-code.ensures c.element-a.ensures in
     decided _ (ap by (sym c.in-53.is))
 
 pub returns-in-54 : goal.returns-in-54
@@ -31,5 +31,5 @@ unfolding by_code
 returns-in-54 c =
     let by : ℕ → Bool = λ code. by_code c.args.action code c.element-a.result in
     let decided : (r : Bool) → r ≡ by c.element-code.result → IsOneOf c.args.sheet.now c.args.at c.args.action r =
-    λ r q. one_of_told q c.wide-from.ensures.0 c.element-code.ensures c.element-a.ensures in
+    λ r q. one_of_told q c.from-from.ensures c.element-code.ensures c.element-a.ensures in
     decided _ (ap by (sym c.in-54.is))

@@ -1,11 +1,7 @@
 -- `scans::next_matching` meets its contract.
 -- The places that were passed do not match.
-use Prim.Native.Nat.{◌-◌}
 use Rattle.scans.proofs.Matching.{Unmatched}
 use Rattle.scans.proofs.summands.next_matching.Given as goal
 
 abbrev pub invariant-loop-slot : goal.invariant-loop-slot
 invariant-loop-slot l = Unmatched l.sheet l.places l.at l.from l.slot
-
-abbrev pub decreases-loop-slot : goal.decreases-loop-slot
-decreases-loop-slot l = 17 - l.slot

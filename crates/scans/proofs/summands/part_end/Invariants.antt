@@ -4,8 +4,8 @@ use Prim.Native.Nat.{◌-◌}
 use Rattle.scans.proofs.PartEnds.{Ending}
 use Rattle.scans.proofs.summands.part_end.Given as goal
 
-abbrev pub invariant-loop-code : goal.invariant-loop-code
-invariant-loop-code l = Ending l.sheet l.slot l.at l.next l.pending
+abbrev pub invariant-loop-pending : goal.invariant-loop-pending
+invariant-loop-pending l = Ending l.sheet l.slot l.at l.next l.pending
 
-abbrev pub decreases-loop-code : goal.decreases-loop-code
-decreases-loop-code l = 512 - l.next
+abbrev pub decreases-loop-pending : goal.decreases-loop-pending
+decreases-loop-pending l = 512 - l.next

@@ -9,20 +9,14 @@ use Rattle.scans.proofs.summands.place.Goals as goal
 pub returns-in-0 : goal.returns-in-0
 returns-in-0 c =
     action_told c.in-0.is c.part_end.ensures
-    (ap (λ (n : ℕ). 2 + n) (c.wide-own.ensures.0 ∙ c.element.ensures)) c.as_byte.ensures
+    (ap (λ (n : ℕ). 2 + n) (c.from-own.ensures ∙ c.element.ensures)) c.as_byte.ensures
 
 pub returns-in-1 : goal.returns-in-1
 returns-in-1 c =
-    let last = c.wide-before.ensures.0 in
+    let last = c.from-before.ensures in
     first_told c.in-1.is (c.as_byte-in-1.ensures ∙ ap (λ (n : ℕ). (n + 1) % 256) last)
 
 pub returns-in_default : goal.returns-in_default
 returns-in_default c =
-    let last = c.wide-before.ensures.0 in
+    let last = c.from-before.ensures in
     next_told {i = c.args.i} (λ h. omega arith) (λ h. omega arith) c.part_end-in_default.ensures last c.as_byte-in_default.ensures
-
-pub part_end-requires : goal.part_end-requires
-part_end-requires c = (c.requires, omega arith)
-
-pub part_end-requires-in_default : goal.part_end-requires-in_default
-part_end-requires-in_default c = (c.requires, omega arith)

@@ -3,8 +3,8 @@
 use Rattle.solving.proofs.RoundsLaws.{Carried}
 use Rattle.solving.proofs.rounds.all_rounds.Given as goal
 
-abbrev pub invariant-loop-s : goal.invariant-loop-s
-invariant-loop-s l = Carried l.bodies l.equations l.count l.table l.graph l.s
+abbrev pub invariant-loop-j : goal.invariant-loop-j
+invariant-loop-j l = Carried l.bodies l.equations l.count l.table l.graph l.s
 
-abbrev pub decreases-loop-s : goal.decreases-loop-s
-decreases-loop-s l = l.s.left
+abbrev pub decreases-loop-j : goal.decreases-loop-j
+decreases-loop-j l = l.s.left

@@ -7,12 +7,11 @@ use Rattle.solving.proofs.rounds.last_dirty.Goals as goal
 pub loop-e-init : goal.loop-e-init
 loop-e-init c = calm_none
 
-pub returns-then-j-lt512 : goal.returns-then-j-lt512
-returns-then-j-lt512 c =
-    calm_but c.loop-e.invariant (omega arith) c.last_unlike-j.ensures (omega arith)
+pub returns-in-Some : goal.returns-in-Some
+returns-in-Some c = calm_but c.loop-e.invariant (omega arith) c.in-Some.ensures
 
 pub loop-e-preserved : goal.loop-e-preserved
-loop-e-preserved c = calm_more c.loop-e.invariant (omega arith) c.last_unlike-j.ensures (omega arith)
+loop-e-preserved c = calm_more c.loop-e.invariant (omega arith) c.in_default.ensures
 
 pub returns : goal.returns
 returns c = calm_all c.loop-e.invariant (omega arith)

@@ -6,6 +6,3 @@ use Rattle.solving.proofs.rounds.last_dirty.Given as goal
 
 abbrev pub invariant-loop-e : goal.invariant-loop-e
 invariant-loop-e l = CalmFrom l.graph l.count l.e (bit_of l.dirty)
-
-abbrev pub decreases-loop-e : goal.decreases-loop-e
-decreases-loop-e l = l.e

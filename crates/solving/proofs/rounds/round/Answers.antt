@@ -6,24 +6,18 @@ use Rattle.solving.proofs.rounds.round.Goals as goal
 
 -- a word of the table has 32 bits
 pub overflow_add-e : goal.overflow_add-e
-overflow_add-e c = omega (arith, c.shared_slice_known-4-1.given c.args.first)
+overflow_add-e c = omega (arith, c.type_inv.table c.args.first)
 
-pub returns-then-table-j : goal.returns-then-table-j
-returns-then-table-j c = looking_all c.equation_number-e.ensures c.look-s.ensures c.loop-s.invariant
+pub returns-then-s-eq0 : goal.returns-then-s-eq0
+returns-then-s-eq0 c = looking_all c.equation_number-e.ensures c.look-s.ensures c.loop-j.invariant
 
-pub loop-s-preserved : goal.loop-s-preserved
-loop-s-preserved c =
-    let before = c.loop-s.invariant in
-    looking_more before c.last_unlike-j.ensures (omega arith) c.look-u.ensures
+pub loop-j-preserved : goal.loop-j-preserved
+loop-j-preserved c =
+    let before = c.loop-j.invariant in
+    looking_more before c.in-Some.ensures c.look-s-in-Some.ensures
 
 pub returns : goal.returns
-returns c = looking_all c.equation_number-e.ensures c.look-s.ensures c.loop-s.invariant
+returns c = looking_all c.equation_number-e.ensures c.look-s.ensures c.loop-j.invariant
 
-pub loop-s-init : goal.loop-s-init
-loop-s-init c = looking_none
-
-pub look-u-requires : goal.look-u-requires
-look-u-requires c = (omega arith, omega arith)
-
-pub loop-s-smaller : goal.loop-s-smaller
-loop-s-smaller c = c.look-u.ensures.spent
+pub loop-j-init : goal.loop-j-init
+loop-j-init c = looking_none

@@ -26,7 +26,7 @@ loop-m-preserved c =
       | then-is_greatest-sign w ↦
           rw w.s-is (settling_back before (omega arith) (omega arith)
           (sym mine.ensures ∙ other_than mine.result sign.result w.if-is_greatest-sign.true ∙ ap not sign.ensures)
-          (rw sign.ensures at w.set_back-u.ensures))
+          (rw sign.ensures at w.set_back-s.ensures))
       | else-is_greatest-sign w ↦
           rw w.s-is (settling_same before (omega arith)
           (sym mine.ensures ∙ beq_eq mine.result sign.result (not-false _ w.if-is_greatest-sign.false) ∙ sign.ensures))

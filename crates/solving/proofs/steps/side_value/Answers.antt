@@ -22,4 +22,4 @@ returns-then-row_has-2 c g =
 
 pub returns : goal.returns
 unfolding numbered_system sides
-returns c g = c.is_true.ensures ∙ ap is_true c.right_side-value.ensures
+returns c g = c.is_true.ensures ∙ ap is_true c.right_side.ensures

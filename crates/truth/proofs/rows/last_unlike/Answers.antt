@@ -1,6 +1,5 @@
 -- `rows::last_unlike` meets its contract: the last number below 512 is the last below the words that were passed.
 -- A word that is 0 has none, and the highest digit of any other word is the last.
-use mathlib.Core.Path.{sym}
 use Prim.Native.Nat.{◌<◌, ◌≤◌}
 use native.Mathlib.Omega.{arith}
 use mir.Syntax.{w64}
@@ -10,13 +9,13 @@ use borrow.Author.Rules.{rules}
 use Rattle.truth.specs.Bits.{bit_of}
 use Rattle.truth.proofs.RowWords.{passed_none, passed_all, passed_more, passed_top, leading_small}
 use Rattle.truth.proofs.RowWords.{word_unlike, past_unlike}
-use Rattle.truth.proofs.RowLaws.{last_nowhere}
+use Rattle.truth.proofs.RowWords.{none_last}
 use Rattle.truth.proofs.rows.last_unlike.Goals as goal
 
 pub returns-then-rows-i : goal.returns-then-rows-i
 returns-then-rows-i c =
     let a = c.args in
-    sym (last_nowhere _ 512 (λ k l. past_unlike a.rows.now a.i (bit_of a.t) a.b k c.if-rows-i.true))
+    none_last _ (λ k l. past_unlike a.rows.now a.i (bit_of a.t) a.b k c.if-rows-i.true)
 
 -- the bits of a turn's word are not all 0
 found : (c : goal.Then-bits-ne0) → 0 < c.unlike-bits.result
@@ -30,15 +29,13 @@ zeros c = leading_small _ (found c) (bits_fit c).fits
 
 pub returns-then-bits-ne0 : goal.returns-then-bits-ne0
 returns-then-bits-ne0 c =
-    let u = c.before in
-    passed_top u.loop-word.invariant (omega arith)
-    (word_unlike _ _ _ _ _ _ _ (omega arith) u.word_at.ensures u.unlike-bits.ensures) (found c) (bits_fit c).fits
+    passed_top c.loop-word.invariant (omega arith)
+    (word_unlike _ _ _ _ _ _ _ (omega arith) c.word_at.ensures c.unlike-bits.ensures) (found c) (bits_fit c).fits
 
 pub loop-word-preserved : goal.loop-word-preserved
 loop-word-preserved c =
-    let u = c.before in
-    passed_more u.loop-word.invariant (omega arith)
-    (word_unlike _ _ _ _ _ _ _ (omega arith) u.word_at.ensures u.unlike-bits.ensures) c.if-bits-ne0.false
+    passed_more c.loop-word.invariant (omega arith)
+    (word_unlike _ _ _ _ _ _ _ (omega arith) c.word_at.ensures c.unlike-bits.ensures) c.if-bits-ne0.false
 
 pub loop-word-init : goal.loop-word-init
 loop-word-init c = passed_none

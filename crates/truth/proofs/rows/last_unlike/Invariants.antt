@@ -7,6 +7,3 @@ use Rattle.truth.proofs.rows.last_unlike.Given as goal
 
 abbrev pub invariant-loop-word : goal.invariant-loop-word
 invariant-loop-word l = Passed (unlike_in (row_of l.rows l.i) (bit_of l.t) l.b) l.word
-
-abbrev pub decreases-loop-word : goal.decreases-loop-word
-decreases-loop-word l = l.word

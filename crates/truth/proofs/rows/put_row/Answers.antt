@@ -34,6 +34,3 @@ returns c =
     let whole : a.i * 8 + 8 ≤ length a.ws.now = omega arith in
     let e : c.loop-word.word ≡ 8 = omega arith in
     record { bits = rw (le-leb _ _ whole) (row_put _ _ _ _ (rw e at f)); size = f.size }
-
-pub shape_of-ws : goal.shape_of-ws
-shape_of-ws c = c.loop-word.invariant.1.size

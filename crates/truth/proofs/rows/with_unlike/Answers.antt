@@ -18,7 +18,7 @@ returns-then-rows-i c =
 
 pub loop-word-preserved : goal.loop-word-preserved
 loop-word-preserved c =
-    let t = c.before.before.before in
+    let t = c in
     let f = t.loop-word.invariant.1 in
     let kept = f.after t.loop-word.word (omega arith) in (
       omega arith,
