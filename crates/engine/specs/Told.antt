@@ -1,5 +1,5 @@
 -- DEFINITIONS: what a result of the code tells: the answer, which on a refusal has its number and line and
--- nothing else. And how many words of a table are to be solved.
+-- nothing else, and the model that was read. And how many words of a table are to be solved.
 use Rattle.std.specs.Prelude.{ℕ, cond, List, [], take, Option, Some, None, Result, Ok, Err}
 use Rattle.meaning.specs.Solution.{same}
 use Rattle.refusals.specs.declared.Reason.{Reason}

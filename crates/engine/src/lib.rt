@@ -83,7 +83,8 @@ fn tell(count: usize) -> Answer
     }
 }
 
-// Finds the reached instances of a model that was read, with its bodies. What they read is not drawn.
+// Finds the reached instances of a model that was read, with its bodies. Kept beside `examine_model`: what
+// they read is not drawn, since a list of one word is no graph, and a call takes less than half the stack so.
 fn find_model(model: Model, bodies: &[u8], table: &mut [u32]) -> Result<Answer, Reason>
     requires { ReadSomewhere (model_told model) bodies.now }
     ensures judges { JudgesModel counted (model_told model) bodies.now table.old
@@ -150,7 +151,8 @@ fn with_model(answer: Result<Answer, Reason>, model: Model) -> Result<Examined, 
     }
 }
 
-// The whole check of a text with a lent table.
+// The whole check of a text with a lent table. Kept beside `find` and `solve`: what they share is one line,
+// the reading, and what is judged differs.
 pub fn examine(text: &[u8], table: &mut [u32]) -> Result<Examined, Refused>
     ensures examines { Examines whole text.now table.old (told result) table.new }
     ensures accepted { IfOk result (λ e. e.answer.number ≡ 0) }

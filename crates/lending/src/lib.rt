@@ -16,7 +16,7 @@ use reading::Model;
 use refusals::{Reason, Refusal};
 
 // An equation as reading lends it: absent ranges are 1; place is that of the body's first digit in the text,
-// length the body's bytes.
+// length the body's bytes. Kept as the rules' numbers, the sign too: `record_of` names them.
 #[derive(Clone, Copy)]
 pub struct Record {
     pub sign: u8,
@@ -41,7 +41,8 @@ impl From<Equation> for Record {
     }
 }
 
-// The refusal that reading a text gives; both are 0 where it gives none.
+// The refusal that reading a text gives; both are 0 where it gives none. Kept as the rules' numbers:
+// `read_answer` names them.
 #[derive(Clone, Copy)]
 pub struct ReadAnswer {
     pub number: u8,
@@ -59,7 +60,8 @@ impl From<Answer> for ReadAnswer {
     }
 }
 
-// The refusal that finding gives, or how many instances are reached; everything else is 0.
+// The refusal that finding gives, or how many instances are reached; everything else is 0. Kept as the rules'
+// numbers: `find_answer` names them.
 #[derive(Clone, Copy)]
 pub struct FindAnswer {
     pub number: u8,

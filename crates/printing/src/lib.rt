@@ -17,7 +17,8 @@ use engine::{Examined, Refused};
 use formulas::Equation;
 use refusals::Refusal;
 
-// The bytes of a frame: the first `count`.
+// The bytes of a frame: the first `count`. Memory is fixed, and an instance's frame has as many as it has
+// arguments and three.
 #[derive(Clone, Copy)]
 struct Frame {
     bytes: [u8; 8],
@@ -110,7 +111,8 @@ pub fn print_answer(text: &[u8], out: &mut [u8]) -> usize
     put_answer(out, &table, examined)
 }
 
-// Writes the lines of a list that is solved and gives the number of bytes written.
+// Writes the lines of a list that is solved and gives the number of bytes written. Kept beside
+// `print_answer`: the words that are shown are the lent ones here, and there those of a table made for it.
 pub fn print_solved(text: &[u8], list: &[u32], out: &mut [u8]) -> usize
     ensures { SolvedWritten text.now list.now out.old result
         out.new }
