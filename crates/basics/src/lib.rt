@@ -1,5 +1,6 @@
 // Small steps on bytes, numbers and truth values. Five of them, all but `element`, are std's by other names,
-// and callers take std's; they stay for what they promise (`one_wide` to `one_rest`).
+// and most callers take std's. `reading` and `processes` call these where a start, a body's length and an
+// action are judged, so that what they promise (`one_wide` to `one_rest`) holds what each program runs.
 #![tactic(auto)]
 
 ghost use Rattle.std.specs.Prelude.{◌≡◌, true, cond, ◌&&◌, ◌-◌, ◌<◌, min, get_or};

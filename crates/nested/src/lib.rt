@@ -79,7 +79,7 @@ impl System<'_> {
         for _ in self.table {
             let inner = self.solve(e + 1, current);
             let next = self.next_candidate(e, inner, current);
-            if next == current {
+            if truth::same(next, current) {
                 return inner;
             }
             current = next;

@@ -5,18 +5,16 @@ ghost use Rattle.processes.specs.Ends.{action_stands, variable_stands, WellForme
 
 use crate::modals::{modal_end, width_at};
 
-// Whether what stands at a place is no box and no diamond, or one whose action is at most 15.
-#[tactic(auto, unfolding(crate::specs::Ends::action_stands))]
+// Whether what stands at a place is no box and no diamond, or one whose action is at most 15. By the words of
+// `basics`: what they promise holds what each translation runs.
 fn action_fits(frame: &[u8], at: usize) -> bool
     requires { at ≤ 512 }
     ensures { result ≡ action_stands frame.now at }
 {
-    match basics::element(frame, at) {
-        0x30 | 0x31 if basics::element(frame, at + 1) != 0x11 => {
-            basics::element(frame, at + 2) <= 15
-        }
-        _ => true,
-    }
+    let code = basics::element(frame, at);
+    let after = basics::and(0x30 <= code, code <= 0x31);
+    let named = basics::and(after, basics::element(frame, at + 1) != 0x11);
+    basics::implies(named, basics::element(frame, at + 2) <= 15)
 }
 
 // Whether what stands at a place is no variable, or that of one of the first fixed points which ends later,

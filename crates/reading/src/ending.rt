@@ -31,7 +31,8 @@ fn first_misfit(bodies: &[u8; 2048], m: Model) -> Option<usize>
 fn start_fits(s: Start, e: Equation) -> bool
     ensures { result ≡ leb s.count 4 && within (take s.count s.arguments) (ranges_of e) }
 {
-    let k = usize::from(e.k).min(4);
+    // By the words of `basics`, here and in `equation_record`: what they promise holds what each check runs.
+    let k = basics::smaller(basics::wide(e.k), 4);
     if s.count != k {
         return false;
     }

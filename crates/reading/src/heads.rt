@@ -37,7 +37,7 @@ pub(crate) fn equation_record(frame: &[u8], place: usize) -> Equation
         k,
         ranges,
         place: place + 2 * head,
-        length: frame.len().saturating_sub(head),
+        length: basics::rest(frame.len(), head),
     }
 }
 

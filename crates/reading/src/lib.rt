@@ -64,7 +64,10 @@ fn read_lines(text: &[u8], bodies: &mut [u8; 2048]) -> Result<Model, Refusal>
             line,
         })?;
         keep_body(bodies, frame, draft.count);
-        draft = draft.with_frame(frame, line, at);
+        // A note changes nothing, and to copy the draft for it would be most of what its line costs.
+        if basics::element(frame, 0) != 3 {
+            draft = draft.with_frame(frame, line, at);
+        }
         at = f.end + 1;
         line += 1;
     }

@@ -191,7 +191,8 @@ impl Source<'_> {
         self.put_instance(self.equation_number(number), spot.depth, steps, out, count)
     }
 
-    // Puts the formula at a spot.
+    // Puts the formula at a spot. Put into its callers, so that a box takes one frame of the stack, not two.
+    #[inline(always)]
     #[cycle(put_both_put_side_put_summands)]
     fn put_side(
         self,

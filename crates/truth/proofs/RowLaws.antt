@@ -74,7 +74,7 @@ pub last_within : (p : ℕ → Bool) (n : ℕ) → n ≤ 512 → last_below n p 
 last_within p n h = ⊎_elim (λ a. omega (arith, a.last)) (λ a. omega (arith, a.small)) (none_or_some p n)
 
 -- how far a number is from 512, which stands for none
-abbrev rank : ℕ → ℕ
+abbrev pub rank : ℕ → ℕ
 rank r = (r + 1) % 513
 
 last_rank : (p : ℕ → Bool) (n : ℕ) → n ≤ 512 → rank (last_below n p) ≤ n

@@ -40,7 +40,7 @@ pub fn put(t: [u64; 8], j: usize, b: bool) -> [u64; 8]
     s
 }
 
-// Whether two sets have the same instances: `==`, which callers take; it stays for its promise (`one_same`).
+// Whether two sets have the same instances: so the nested solver sees that a candidate is the fixed point.
 pub fn same(a: [u64; 8], b: [u64; 8]) -> bool
     ensures { result ≡ same_below 512 (bit_of a) (bit_of b) }
 {

@@ -8,10 +8,6 @@ use mathlib.Core.List.{List}
 use lib.Dec.{leb}
 use lib.ListN.{length, take}
 use lib.Seq.{sets}
-use borrow.Rule.Slice.PartMut.{put_mid}
-use Rattle.std.proofs.Common.{append_assoc}
-use Rattle.std.proofs.lemmas.List.Edits.{paste_all, sets-eq}
-use Rattle.std.proofs.lemmas.Slice.{put_mid-paste}
 use borrow.Author.Tests.{eq-eqb, ne_eqb, le-leb}
 use Rattle.frames.specs.PutLine.{Puts}
 use Rattle.reading.specs.Reading.{Refusal, refused}
@@ -78,13 +74,6 @@ module _ {out left bytes : List ℕ} {at n : ℕ} where
   puts p room =
       let enough = le-leb (at + length bytes) (length out) room in
       (p.place ∙ rw enough refl, p.written ∙ rw enough refl)
-
--- bytes that are copied into a part of the buffer
-pub part_put : (out : List ℕ) (at : ℕ) (bytes copied : List ℕ) → copied ≡ bytes → at + length bytes ≤ length out
-    → put_mid at (at + length bytes - at) out copied ≡ sets out at bytes
-part_put out at bytes copied same room =
-    put_mid-paste at (at + length bytes - at) out copied bytes (length bytes) same (omega arith) refl ∙
-    paste_all out at bytes (length bytes) refl ∙ sym (sets-eq bytes out at room ∙ append_assoc (take at out) bytes _)
 
 -- an operation that puts its text as a whole
 pub writes_put : {r : Refusal} {text out left : List ℕ} {n : ℕ} → r ≡ refused 0 0 → length text ≤ length out

@@ -70,9 +70,12 @@ pub fn put(out: &mut [u8], at: usize, bytes: &[u8]) -> usize
     if !fits(out.len(), at, bytes.len()) {
         return at;
     }
-    let end = at + bytes.len();
-    out[at..end].copy_from_slice(bytes);
-    end
+    // By a loop: `copy_from_slice` between two lent places is a call of `memmove`, and the archive for C
+    // would need one more name from outside.
+    for i in 0..bytes.len() {
+        out[at + i] = bytes[i];
+    }
+    at + bytes.len()
 }
 
 // What a command prints of a reply: the text that stands in the buffer, or the line of the refusal, put there

@@ -17,7 +17,7 @@ use Rattle.refusals.specs.OneReply.{some_number}
 use Rattle.frames.specs.Lines.{line_place}
 use Rattle.frames.specs.Frames.{Frames}
 use Rattle.frames.specs.FrameAt.{FrameRecord, frame_at}
-use Rattle.reading.specs.Contract.{with_frame, body_kept, LinesRead, stopped}
+use Rattle.reading.specs.Contract.{draft_told, with_frame, body_kept, LinesRead, stopped}
 use Rattle.reading.specs.Reading.{refused, frame_refusal, text_refusal}
 use Rattle.reading.specs.Records.{ModelRecord}
 use Rattle.reading.proofs.Drafts.{drafted_as, frame_of, count_is, unstarted_is, drafted_none, drafted_more}
@@ -27,6 +27,7 @@ use Rattle.reading.proofs.Turns.{judged, frames_at, Begins}
 use Rattle.reading.proofs.Finishing as law
 use Rattle.reading.proofs.LineNumbers.{long_text_one}
 use Rattle.reading.proofs.read_lines.Invariants.{Progress}
+use Rattle.reading.proofs.read_lines.Goals.{then-element-ne3, else-element-ne3}
 use Rattle.reading.proofs.read_lines.Goals as goal
 
 -- a turn: the line at the place, with its frame
@@ -94,6 +95,10 @@ passed_on : {t bodies : List ℕ} (r : Result Model Refusal) (e : Refusal) → I
     → LinesRead t bodies r
 passed_on (Ok m) e h k = absurd h
 passed_on (Err f) e h k = rw h k
+
+-- a note leaves the draft as it is
+note_kept : (m : ModelRecord) (line place : ℕ) (f : List ℕ) → get_or f 0 0 ≡ 3 → m ≡ with_frame m line place f
+note_kept m line place f note = rw note refl
 
 pub returns-then-text-gt32768 : goal.returns-then-text-gt32768
 returns-then-text-gt32768 c = rw c.from.ensures (stopped (long_text_one _ (omega arith)))
@@ -184,8 +189,15 @@ loop-at-preserved c =
     let passed = ok_was _ c.judge_frame.result c.map_err-in-loop-at.result c.in_ok-map_err.field-0
     c.map_err-in-loop-at.ensures.cases c.in_ok-map_err.was in
     let e = rw frame at c.frame_at-f.ensures in
+    let bytes = take c.in_ok-bytes.field-0.size c.in_ok-bytes.field-0.bytes in
+    let drawn : draft_told c.if-element-ne3.draft ≡ with_frame (draft_told c.loop-at.draft) c.loop-at.line c.loop-at.at bytes =
+    elim c.if-element-ne3.branch [
+      | then-element-ne3 w ↦ ap draft_told w.draft-is ∙ w.with_frame-draft.ensures
+      | else-element-ne3 w ↦ ap draft_told w.draft-is
+          ∙ note_kept _ _ _ bytes (sym c.element.ensures ∙ w.if-element-ne3.false)
+    ] in
     more c.loop-at.invariant c.loop-at-test.true e refl (rw (passed, c.is_some.ensures) at c.judge_frame.ensures) refl
-    c.with_frame-draft.ensures c.keep_body.ensures
+    drawn c.keep_body.ensures
 
 pub finish-requires : goal.finish-requires
 finish-requires c =

@@ -1,10 +1,9 @@
 -- The proof of the cycle of calls {System::solve}: the measure is the number of equations left.
 -- The loop's invariant: so many turns were made, and the later equations are still at their first candidates.
-use mathlib.Core.Path.{sym, ap, ◌∙◌}
+use mathlib.Core.Path.{sym, ◌∙◌}
 use native.Mathlib.Omega.{arith}
 use borrow.Author.Rules.{rules}
-use Rattle.truth.specs.Bits.{bit_of}
-use lib.Pointwise.{bytes_decides}
+use Rattle.truth.proofs.Bits.{same_bits}
 use Rattle.instances.proofs.SystemLaws.{system_size, system_proper}
 use Rattle.nested.proofs.Turns.{solved_none, no_turn, one_turn, all_turns, idle_turn}
 use Rattle.nested.proofs.System.+solve.Goals as goal
@@ -20,11 +19,11 @@ solve-inner-requires t c =
     (omega arith, (omega arith, c.loop.invariant.1.unsolved))
 
 -- a turn that changes nothing ends it
-pub returns-then-eq : goal.returns-then-eq
-returns-then-eq t c =
+pub returns-then-same : goal.returns-then-same
+returns-then-same t c =
     let loop = c.loop in
     let next = c.next_candidate-next in
-    let alike = ap bit_of ((bytes_decides next.result loop.current).0 (sym c.eq.ensures ∙ c.if-eq.true)) in
+    let alike = same_bits next.result loop.current (search rules) (search rules) (sym c.same.ensures ∙ c.if-same.true) in
     idle_turn loop.invariant.1 (omega arith) c.requires.1 c.solve-inner.ensures next.ensures alike
 
 pub loop-preserved : goal.loop-preserved
